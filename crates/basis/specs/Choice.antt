@@ -1,0 +1,19 @@
+-- A choice by a Bool at any type, and the two connectives, from which the decision lists of 01 are made.
+-- Each matches on its first argument, so that a test whose value is known computes away.
+use mathlib.Core.Bool.{Bool, true, false}
+
+infixr 6 _and_
+infixr 5 _or_
+
+-- the first where the test holds, otherwise the second
+abbrev pub when : {A : Type 0} → Bool → A → A → A
+when true a b = a
+when false a b = b
+
+abbrev pub _and_ : Bool → Bool → Bool
+_and_ true b = b
+_and_ false b = false
+
+abbrev pub _or_ : Bool → Bool → Bool
+_or_ true b = true
+_or_ false b = b

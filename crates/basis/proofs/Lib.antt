@@ -1,1 +1,3 @@
+pub mod Laid
+pub mod Sums
 pub mod Tests

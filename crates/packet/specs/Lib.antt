@@ -1,0 +1,4 @@
+pub mod Read
+pub mod Reply
+pub mod Wire
+pub mod Write

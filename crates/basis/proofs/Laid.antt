@@ -75,3 +75,11 @@ laid-lent at p q o f y e fits ef ey =
     ∙ ap (λ (n : ℕ). take n f ++ laid q (drop n f)) e
     ∙ ap (λ (r : List ℕ). take (length p) r ++ laid q (drop (length p) r)) ef
     ∙ laid-behind p q o
+
+-- a byte stored right behind what was laid is laid too
+pub laid-push : (p o : List ℕ) (v : ℕ) → length p < length o → set (laid p o) (length p) v ≡ laid (p ++ v ∷ []) o
+laid-push p o v h =
+    let fits : length p + 1 ≤ length (laid p o) = omega (arith, length-laid p o (omega arith)) in
+    laid-at (length p) (v ∷ []) (laid p o) fits
+    ∙ ap (λ (q : List ℕ). laid (q ++ v ∷ []) (laid p o)) (take-laid p o)
+    ∙ laid-over (p ++ v ∷ []) p o (omega (arith, length-append p (v ∷ [])))

@@ -1,3 +1,4 @@
+pub mod Choices
 pub mod Laid
 pub mod Sums
 pub mod Tests

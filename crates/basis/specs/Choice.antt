@@ -4,7 +4,6 @@ use mathlib.Core.Bool.{Bool, true, false}
 
 infixr 6 _and_
 infixr 5 _or_
-
 -- the first where the test holds, otherwise the second
 abbrev pub when : {A : Type 0} → Bool → A → A → A
 when true a b = a

@@ -6,7 +6,6 @@ use lib.Dec.{eqb}
 use Rattle.basis.specs.Choice.{when, _and_, _or_}
 
 infix 70 _if_
-
 -- number n is given if the test holds
 pub data Row : Type 0 where
   _if_ : ℕ → Bool → Row

@@ -1,2 +1,4 @@
 pub mod Frame
 pub mod Laying
+pub mod Parts
+pub mod Writing

@@ -1,1 +1,47 @@
--- Replies: placeholder
+-- The sign's reply to a query: what it may carry, how it is read (number 35) and what refuses to write it.
+use Prim.Native.Nat.{ℕ, _%_}
+use mathlib.Core.List.{List, [], _∷_}
+use mathlib.Core.Bool.{Bool, not}
+use lib.ListN.{length, getD}
+use lib.Dec.{eqb, leb}
+use Rattle.basis.specs.Bytes.{sum}
+use Rattle.basis.specs.Choice.{when, _and_, _or_}
+use Rattle.basis.specs.Rows.{Row, _if_}
+use Rattle.packet.specs.Wire.{turned, replyOf}
+use Rattle.packet.specs.Write.{shortBy}
+use Rattle.packet.specs.declared.reply.Status.{Status}
+use Rattle.packet.specs.declared.reply.Status.the-variants.{Heard, Refused}
+
+-- last ID 0 to 3Fh or 41h
+abbrev pub isLast : ℕ → Bool
+isLast id = leb id 0x3F or eqb id 0x41
+
+-- the frame of the eight bytes: length, sum, turned MID, 7Fh, 8, and 00h before the checksum
+abbrev pub isReply : ℕ → List ℕ → Bool
+isReply mid b =
+    eqb (length b) 8
+    and eqb (sum b % 256) 0
+    and eqb (getD b 0 0) (turned mid)
+    and eqb (getD b 1 0) 0x7F
+    and eqb (getD b 2 0) 8
+    and eqb (getD b 6 0) 0
+
+-- the three bytes that tell: last ID, `R` or `B`, `S` or `F`
+abbrev pub statusOf : ℕ → ℕ → ℕ → Status
+statusOf last state aux =
+    when (isLast last and (eqb state 0x52 or eqb state 0x42) and (eqb aux 0x53 or eqb aux 0x46))
+    (Heard last (eqb state 0x42) (eqb aux 0x53))
+    (Refused 35)
+
+-- what the sender hears: 35 for all but a reply of the sign with this MID
+unfoldable pub heardOf : ℕ → List ℕ → Status
+heardOf mid b = when (isReply mid b) (statusOf (getD b 3 0) (getD b 4 0) (getD b 5 0)) (Refused 35)
+
+-- the refusals of the reply's writer: an ID that no sign completes, or no room
+abbrev pub replyRows : ℕ → ℕ → Bool → Bool → List ℕ → List Row
+replyRows mid last busy sink out = 32 if not (isLast last) ∷ shortBy (replyOf mid last busy sink) out ∷ []
+
+-- an answer in 01's words: the number for no, 0 for yes
+abbrev pub numberOf : Status → ℕ
+numberOf (Heard last busy sink) = 0
+numberOf (Refused n) = n

@@ -1,6 +1,5 @@
 // Reads a packet's bytes ("The packet", numbers 1 to 11).
 use crate::sum::sum_of;
-
 ghost use mathlib.Core.Path.{_≡_};
 ghost use Prim.Native.Nat.{_<_, _≤_};
 ghost use Rattle.packet.specs.Read.{readOf, fieldsOf};

@@ -1,10 +1,9 @@
 // Writes packets into a lent buffer ("The writer gives ..", numbers 31 to 34). A refusal changes no byte, and bytes past
 // the written ones stay.
 use crate::sum::checksum;
-
 ghost use mathlib.Core.Path.{_≡_};
 ghost use mathlib.Core.List.{[], _∷_};
-ghost use Prim.Native.Nat.{_+_, _≤_};
+ghost use Prim.Native.Nat.{_+_, _≤_, min};
 ghost use lib.ListN.{length, take};
 ghost use Rattle.basis.specs.Bytes.{laid};
 ghost use Rattle.packet.specs.Wire.{sealed, packetOf, queryOf, resetOf, packetAt, transmissionOf};
@@ -47,4 +46,94 @@ fn write_fields(mid: u8, id: u8, fifth: u8, part: &[u8], out: &mut [u8])
     write_front(mid, (len + 7) as u8, id, fifth, out);
     bytes::copy(part, &mut out[5..]);
     seal(out, len + 5);
+}
+
+// A packet without data: a query or a reset.
+fn write_special(mid: u8, id: u8, out: &mut [u8]) -> Written
+    ensures { λ r. ⌜ Writes (shortBy (packetOf mid id 0x10 []) (now (out .entry)) ∷ []) (packetOf mid id 0x10 []) (now (out .entry)) r (now (out .exit)) ⌝ }
+{
+    if out.len() < 7 {
+        return Written::Refused(34);
+    }
+    write_fields(mid, id, 0x10, b"", out);
+    Written::Wrote(7)
+}
+
+// The packet that asks the sign of this MID for its status.
+pub fn write_query(mid: u8, out: &mut [u8]) -> Written
+    ensures { λ r. ⌜ Writes (shortBy (queryOf mid) (now (out .entry)) ∷ []) (queryOf mid) (now (out .entry)) r (now (out .exit)) ⌝ }
+{
+    write_special(mid, 0x40, out)
+}
+
+// The packet that resets the sign of this MID.
+pub fn write_reset(mid: u8, out: &mut [u8]) -> Written
+    ensures { λ r. ⌜ Writes (shortBy (resetOf mid) (now (out .entry)) ∷ []) (resetOf mid) (now (out .entry)) r (now (out .exit)) ⌝ }
+{
+    write_special(mid, 0x41, out)
+}
+
+// The lesser of two numbers.
+fn lesser(a: usize, b: usize) -> usize
+    ensures { λ r. ⌜ r ≡ min a b ⌝ }
+{
+    if a < b { a } else { b }
+}
+
+// The packet at one position of a body.
+pub fn write_packet(mid: u8, id: u8, body: &[u8], position: u8, out: &mut [u8]) -> Written
+    ensures { λ r. ⌜ Writes (packetRows mid id (now (body .entry)) position (now (out .entry))) (packetAt mid id (now (body .entry)) position) (now (out .entry)) r (now (out .exit)) ⌝ }
+{
+    let n = body.len();
+    if n == 0 {
+        return Written::Refused(31);
+    }
+    if 84 < n {
+        return Written::Refused(31);
+    }
+    if 0x3f < id {
+        return Written::Refused(32);
+    }
+    let total = (n + 13) / 14;
+    let at = position as usize;
+    if total <= at {
+        return Written::Refused(33);
+    }
+    let from = 14 * at;
+    let to = lesser(n, from + 14);
+    let len = to - from;
+    if out.len() < len + 7 {
+        return Written::Refused(34);
+    }
+    let fifth = (16 * total + at) as u8;
+    write_fields(mid, id, fifth, &body[from..to], out);
+    Written::Wrote(len + 7)
+}
+
+// All packets of a body, each laid into the buffer behind the one before.
+pub fn write_transmission(mid: u8, id: u8, body: &[u8], out: &mut [u8]) -> Written
+    ensures { λ r. ⌜ Writes (transmissionRows mid id (now (body .entry)) (now (out .entry))) (transmissionOf mid id (now (body .entry))) (now (out .entry)) r (now (out .exit)) ⌝ }
+{
+    let n = body.len();
+    if n == 0 {
+        return Written::Refused(31);
+    }
+    if 84 < n {
+        return Written::Refused(31);
+    }
+    if 0x3f < id {
+        return Written::Refused(32);
+    }
+    let total = (n + 13) / 14;
+    let size = 7 * total + n;
+    if out.len() < size {
+        return Written::Refused(34);
+    }
+    let mut position: u8 = 0;
+    while (position as usize) < total {
+        let at = 21 * position as usize;
+        write_packet(mid, id, body, position, &mut out[at..]);
+        position += 1;
+    }
+    Written::Wrote(size)
 }

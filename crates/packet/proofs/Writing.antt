@@ -1,0 +1,125 @@
+-- From the tests of a writer to its outcome: a refusal leaves the buffer, a yes lays the bytes.
+use Prim.Native.Nat.{ℕ, suc, _+_, _-_, _*_, _≤_, _<_, min}
+use mathlib.Core.Path.{_≡_, refl, sym, ap, _∙_}
+use mathlib.Core.List.{List, [], _∷_}
+use native.Mathlib.Omega.{arith}
+use mathlib.Core.Bool.{Bool, true}
+use borrow.Author.Tests.{lt-ltb, le-ltb}
+use lib.ListN.{length, take, drop, set, length-take, length-drop}
+use native.Mathlib.Numerals.{add-one}
+use borrow.Rule.Slice.PartMut.{putMid}
+use lib.Dec.{ltb}
+use Rattle.basis.specs.Bytes.{laid}
+use Rattle.basis.specs.Choice.{when}
+use Rattle.basis.specs.Rows.{Row, firstOf}
+use Rattle.basis.proofs.Laid.{laid-lent, length-laid}
+use Rattle.basis.proofs.Tests.{tests}
+use Rattle.packet.specs.Reply.{isLast, replyRows}
+use Rattle.packet.specs.Wire.{sealed, turned, stateOf, auxOf, replyOf, totalOf, partOf, packetOf, packetAt, packetsOf, transmissionOf}
+use Rattle.packet.specs.Write.{Writes, answerOf, bufferOf, packetRows, transmissionRows}
+use Rattle.packet.specs.declared.write.Written.{Written}
+use Rattle.packet.specs.declared.write.Written.the-variants.{Wrote, Refused}
+use Rattle.packet.proofs.Laying.{reply-lays}
+use Rattle.packet.proofs.Parts.{packet-length, part-length, part-cut, packets-length, transmission-length}
+
+module _ (rows : List Row) (bytes out : List ℕ) where
+  pub refused : (n : ℕ) → firstOf rows ≡ suc n → Writes rows bytes out (Refused (suc n)) out
+  refused n e = record { answered = ap (λ (k : ℕ). answerOf k bytes) (sym e); left = ap (λ (k : ℕ). bufferOf k bytes out) (sym e) }
+
+  pub wrote : (len : ℕ) (after : List ℕ) → firstOf rows ≡ 0 → len ≡ length bytes → after ≡ laid bytes out
+      → Writes rows bytes out (Wrote len) after
+  wrote len after e el ea =
+      record
+      { answered = ap Wrote el ∙ ap (λ (k : ℕ). answerOf k bytes) (sym e); left = ea ∙ ap (λ (k : ℕ). bufferOf k bytes out) (sym e) }
+
+module _ (mid id : ℕ) (body out : List ℕ) (some : length body ≡ 0 → ⊥) (most : length body ≤ 84) (normal : id ≤ 0x3F) where
+  module _ (position to : ℕ) (below : position < totalOf body) (cut : to ≡ min (length body) (14 * position + 14)) where
+    -- a packet that is cut off at `to` has that many bytes and seven
+    packet-size : length (packetAt mid id body position) ≡ to - 14 * position + 7
+    packet-size =
+        omega (arith, packet-length mid id (16 * totalOf body + position) (partOf body position), part-length body position)
+
+    -- all that is left to refuse a packet is the room
+    packet-room : firstOf (packetRows mid id body position out) ≡ when (ltb (length out) (to - 14 * position + 7)) 34 0
+    packet-room = search (tests, packet-size)
+
+    pub packet-refused : length out < to - 14 * position + 7
+        → Writes (packetRows mid id body position out) (packetAt mid id body position) out (Refused 34) out
+    packet-refused short =
+        refused (packetRows mid id body position out) (packetAt mid id body position) out 33
+        (packet-room ∙ ap (λ (b : Bool). when b 34 0) (lt-ltb (length out) (to - 14 * position + 7) short))
+
+    pub packet-wrote : (part after : List ℕ) → to - 14 * position + 7 ≤ length out
+        → part ≡ take (to - 14 * position) (drop (14 * position) body)
+        → after ≡ laid (packetOf mid id (16 * totalOf body + position) part) out
+        → Writes (packetRows mid id body position out) (packetAt mid id body position) out (Wrote (to - 14 * position + 7)) after
+    packet-wrote part after room ep ea =
+        let within : 14 * position ≤ length body = omega arith in
+        wrote (packetRows mid id body position out) (packetAt mid id body position) out (to - 14 * position + 7) after
+        (packet-room ∙ ap (λ (b : Bool). when b 34 0) (le-ltb (length out) (to - 14 * position + 7) room))
+        (sym packet-size)
+        (ea
+        ∙ ap (λ (p : List ℕ). laid (packetOf mid id (16 * totalOf body + position) p) out)
+        (ep ∙ part-cut body position to within cut))
+
+  -- and the same of a transmission
+  transmission-room : firstOf (transmissionRows mid id body out)
+      ≡ when (ltb (length out) (7 * totalOf body + length body)) 34 0
+  transmission-room = search (tests, transmission-length mid id body)
+
+  pub transmission-refused : length out < 7 * totalOf body + length body
+      → Writes (transmissionRows mid id body out) (transmissionOf mid id body) out (Refused 34) out
+  transmission-refused short =
+      refused (transmissionRows mid id body out) (transmissionOf mid id body) out 33
+      (transmission-room ∙ ap (λ (b : Bool). when b 34 0) (lt-ltb (length out) (7 * totalOf body + length body) short))
+
+  pub transmission-wrote : (after : List ℕ) → 7 * totalOf body + length body ≤ length out
+      → after ≡ laid (transmissionOf mid id body) out
+      → Writes (transmissionRows mid id body out) (transmissionOf mid id body) out (Wrote (7 * totalOf body + length body)) after
+  transmission-wrote after room ea =
+      wrote (transmissionRows mid id body out) (transmissionOf mid id body) out (7 * totalOf body + length body) after
+      (transmission-room ∙ ap (λ (b : Bool). when b 34 0) (le-ltb (length out) (7 * totalOf body + length body) room))
+      (sym (transmission-length mid id body))
+      ea
+
+  -- what stands behind the first packets, lent on and handed back by the writer of one packet, holds the next
+  pub next-packet : (f y : List ℕ) (position : ℕ) (r : Written) → position < totalOf body → 7 * totalOf body + length body ≤ length out
+      → f ≡ laid (packetsOf mid id body position) out
+      → (let rest = take (length f - 21 * position) (drop (21 * position) f) in
+      Writes (packetRows mid id body position rest) (packetAt mid id body position) rest r y)
+      → (putMid (21 * position) (length f - 21 * position) f y ≡ laid (packetsOf mid id body (position + 1)) out)
+      × (length (putMid (21 * position) (length f - 21 * position) f y) ≡ length out)
+  unfolding packetsOf
+  next-packet f y position r below room ef written =
+      let at = 21 * position in
+      let p = packetsOf mid id body position in
+      let q = packetAt mid id body position in
+      let rest = take (length f - at) (drop at f) in
+      let lp : at ≡ length p = omega (arith, packets-length mid id body position) in
+      let fits : length p ≤ length out = omega arith in
+      let lf : length f ≡ length out = ap length ef ∙ length-laid p out fits in
+      let lq : length q ≡ min 14 (length body - 14 * position) + 7 =
+      omega (arith, packet-length mid id (16 * totalOf body + position) (partOf body position), part-length body position) in
+      let lr : length rest ≡ length out - at =
+      simp (length-take, length-drop) (omega arith) in
+      let enough : length q ≤ length rest = omega arith in
+      let none : firstOf (packetRows mid id body position rest) ≡ 0 = search (tests, enough) in
+      let laying : y ≡ laid q rest = written .left ∙ ap (λ (k : ℕ). bufferOf k q rest) none in
+      let now : putMid at (length f - at) f y ≡ laid (packetsOf mid id body (position + 1)) out =
+      rw add-one (laid-lent at p q out f y lp fits ef laying) in
+      let most : length (packetsOf mid id body (position + 1)) ≤ length out =
+      omega (arith, packets-length mid id body (position + 1)) in
+      (now, ap length now ∙ length-laid (packetsOf mid id body (position + 1)) out most)
+
+-- a reply that is written whole
+pub reply-wrote : (mid last : ℕ) (busy sink : Bool) (o f after : List ℕ) (from state aux : ℕ) → isLast last ≡ true → 8 ≤ length o
+    → from ≡ turned mid → state ≡ stateOf busy → aux ≡ auxOf sink → f ≡ laid (from ∷ 0x7F ∷ 8 ∷ last ∷ state ∷ []) o
+    → after ≡ laid (sealed (take 6 (set f 5 aux))) (set f 5 aux)
+    → Writes (replyRows mid last busy sink o) (replyOf mid last busy sink) o (Wrote 8) after
+unfolding replyOf
+reply-wrote mid last busy sink o f after from state aux known fits e1 e2 e3 ef ea =
+    let front : f ≡ laid (turned mid ∷ 0x7F ∷ 8 ∷ last ∷ stateOf busy ∷ []) o = cc in
+    let whole : after ≡ laid (sealed (take 6 (set f 5 (auxOf sink)))) (set f 5 (auxOf sink)) =
+    ea ∙ ap (λ (k : ℕ). laid (sealed (take 6 (set f 5 k))) (set f 5 k)) e3 in
+    wrote (replyRows mid last busy sink o) (replyOf mid last busy sink) o 8 after (search (tests, known)) refl
+    (whole ∙ reply-lays mid last busy sink o f fits front)

@@ -1,4 +1,6 @@
+pub mod Bytes
 pub mod Choices
 pub mod Laid
+pub mod Rows
 pub mod Sums
 pub mod Tests

@@ -1,6 +1,7 @@
 -- A table of refusals: a number and the test under which it is given. The first row whose test holds decides.
-use Prim.Native.Nat.{ℕ, zero, suc}
+use Prim.Native.Nat.{ℕ, zero, suc, _<_}
 use mathlib.Core.Bool.{Bool, true, false}
+use mathlib.Core.Path.{_≡_}
 use mathlib.Core.List.{List, [], _∷_}
 use lib.Dec.{eqb}
 use Rattle.basis.specs.Choice.{when, _and_, _or_}
@@ -19,3 +20,13 @@ firstOf (n if b ∷ rows) = when b n (firstOf rows)
 abbrev pub applies : ℕ → List Row → Bool
 applies n [] = false
 applies n (m if b ∷ rows) = (eqb n m and b) or applies n rows
+
+-- the numbers of a table rise from row to row
+abbrev pub Rising : ℕ → List Row → Type 0
+Rising m [] = Unit
+Rising m (n if b ∷ rows) = (m < n) × Rising n rows
+
+-- no test of the table holds
+abbrev pub Passed : List Row → Type 0
+Passed [] = Unit
+Passed (n if b ∷ rows) = (b ≡ false) × Passed rows

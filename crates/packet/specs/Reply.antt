@@ -26,10 +26,10 @@ isReply mid b =
     and eqb (getD b 2 0) 8
     and eqb (getD b 6 0) 0
 
--- the three bytes that tell: last ID, `R` or `B`, `S` or `F`
+-- the three bytes that tell: last ID, `B` or `R`, `S` or `F`
 abbrev pub statusOf : ℕ → ℕ → ℕ → Status
 statusOf last state aux =
-    when (isLast last and (eqb state 0x52 or eqb state 0x42) and (eqb aux 0x53 or eqb aux 0x46))
+    when (isLast last and (eqb state 0x42 or eqb state 0x52) and (eqb aux 0x53 or eqb aux 0x46))
     (Heard last (eqb state 0x42) (eqb aux 0x53))
     (Refused 35)
 

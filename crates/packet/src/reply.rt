@@ -83,7 +83,7 @@ fn read_status(last: u8, state: u8, aux: u8) -> Status
     if !is_last(last) {
         return Status::Refused(35);
     }
-    if !is_either(state, b'R', b'B') {
+    if !is_either(state, b'B', b'R') {
         return Status::Refused(35);
     }
     if !is_either(aux, b'S', b'F') {

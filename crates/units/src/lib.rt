@@ -1,0 +1,61 @@
+// Shifts, scans and milliseconds ("counted apart and never added to each other"): one tuple struct a unit, with its own
+// sum and its own conversion to the next. A sum or a product past 64 bits stays at the greatest number.
+//   capped   the sum and the product that stay at the greatest number
+ghost use mathlib.Core.Path.{_≡_};
+ghost use Rattle.units.specs.Units.{sumOf, scansOf, millisOf};
+
+mod capped;
+
+use capped::capped_product;
+use capped::capped_sum;
+
+pub struct Shifts(pub u64);
+
+pub struct Scans(pub u64);
+
+pub struct Millis(pub u64);
+
+impl Shifts {
+    // These shifts and those.
+    pub fn add(self, more: Shifts) -> Shifts
+        ensures { λ r. ⌜ r .0 ≡ sumOf (self .0) (more .0) ⌝ }
+    {
+        Shifts(capped_sum(self.0, more.0))
+    }
+
+    // The scans of these shifts, at some scans for each.
+    pub fn scans(self, each: u8) -> Scans
+        ensures { λ r. ⌜ r .0 ≡ scansOf (self .0) each ⌝ }
+    {
+        Scans(capped_product(self.0, each as u64))
+    }
+}
+
+impl Scans {
+    // These scans and those.
+    pub fn add(self, more: Scans) -> Scans
+        ensures { λ r. ⌜ r .0 ≡ sumOf (self .0) (more .0) ⌝ }
+    {
+        Scans(capped_sum(self.0, more.0))
+    }
+
+    // The milliseconds of these scans at a pace, rounded up.
+    pub fn millis(self, pace: u8) -> Millis
+        ensures { λ r. ⌜ r .0 ≡ millisOf (self .0) pace ⌝ }
+    {
+        let n = self.0;
+        let by = pace as u64 + 5;
+        let whole = n / by;
+        let rest = n % by;
+        Millis(capped_sum(capped_product(whole, 200), (200 * rest + (by - 1)) / by))
+    }
+}
+
+impl Millis {
+    // These milliseconds and those.
+    pub fn add(self, more: Millis) -> Millis
+        ensures { λ r. ⌜ r .0 ≡ sumOf (self .0) (more .0) ⌝ }
+    {
+        Millis(capped_sum(self.0, more.0))
+    }
+}

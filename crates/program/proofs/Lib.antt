@@ -1,0 +1,7 @@
+pub mod Bools
+pub mod Places
+pub mod Texts
+pub mod Numbers
+pub mod Widths
+pub mod Rows
+pub mod Parameters

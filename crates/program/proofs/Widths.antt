@@ -1,0 +1,37 @@
+-- Laws of a text's width: one byte more, and how wide a byte can be.
+use Prim.Native.Nat.{ℕ, _+_, _≤_, _<_, min}
+use mathlib.Core.Path.{_≡_, refl, sym, ap, _∙_}
+use mathlib.Core.Bool.{Bool, true, false}
+use mathlib.Core.List.{List, [], _∷_}
+use native.Mathlib.Omega.{arith}
+use lib.Dec.{eqb, leb}
+use native.Mathlib.Numerals.{add-one}
+use lib.ListN.{length, getD, drop, drop-of-length-le}
+use lib.Seq.{drop-cons}
+use Rattle.basis.specs.Choice.{when}
+use Rattle.program.specs.Bytes.{tilde}
+use Rattle.program.specs.Width.{fontColumns, columnsOf, fontOf, widthOf, widest}
+
+pick-most : (t : Bool) (a b n : ℕ) → a ≤ n → b ≤ n → when t a b ≤ n
+pick-most true a b n h k = h
+pick-most false a b n h k = k
+
+-- no byte takes more than 9 columns
+pub columns-most : (font last x : ℕ) → columnsOf font last x ≤ 9
+columns-most f p x =
+    pick-most (eqb p tilde) _ _ 9 (omega arith)
+    (pick-most (eqb x tilde) _ _ 9 (omega arith)
+    (pick-most (leb 0x80 x) _ _ 9 (omega arith)
+    (pick-most (eqb f 0x44) _ _ 9 (omega arith)
+    (pick-most (eqb f 0x64) _ _ 9 (omega arith)
+    (pick-most (eqb f 0x42) _ _ 9 (omega arith)
+    (pick-most (eqb f 0x62) _ _ 9 (omega arith) (pick-most (eqb f 0x43) _ _ 9 (omega arith) (omega arith))))))))
+
+-- one byte more: its columns, and the rest behind it
+pub width-next : (s : List ℕ) (font last i : ℕ) → i < length s → widthOf font last (drop i s) ≡ columnsOf font last (getD s i 0) + widthOf (fontOf font last (getD s i 0)) (getD s i 0) (drop (i + 1) s)
+width-next s font last i h =
+    let e : drop i s ≡ getD s i 0 ∷ drop (i + 1) s = rw (add-one i, drop-cons s i 0) in
+    ap (widthOf font last) e
+
+pub width-end : (s : List ℕ) (font last i : ℕ) → length s ≤ i → widthOf font last (drop i s) ≡ 0
+width-end s font last i h = ap (widthOf font last) (drop-of-length-le s h)

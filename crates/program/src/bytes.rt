@@ -1,0 +1,101 @@
+// The byte at a place, the kind of a byte within a text, and the letters that a tilde takes.
+// Answers to 01: "It holds 20h to 7Dh; a tilde followed by one of `B b C c D d G`; and 80h to FFh only directly after `~G`
+// or after another such byte."
+use crate::ByteKind;
+ghost use mathlib.Core.Path.{_≡_};
+ghost use lib.ListN.{getD};
+ghost use Rattle.program.specs.Bytes.{caret};
+ghost use Rattle.program.specs.Text.{kindOf, isLetter, mayRun, wrongOf};
+
+// The byte at a place; behind the end stands a caret, which ends every parameter as the end does.
+pub fn byte_at(body: &[u8], at: usize) -> u8
+    ensures { λ r. ⌜ r ≡ getD (now (body .entry)) at caret ⌝ }
+{
+    if body.len() <= at {
+        return 0x5E;
+    }
+    body[at]
+}
+
+// What kind of byte it is within a text.
+pub fn byte_kind(x: u8) -> ByteKind
+    ensures { λ r. ⌜ r ≡ kindOf x ⌝ }
+{
+    if x < 0x20 {
+        return ByteKind::Forbidden;
+    }
+    if x == 0x5E {
+        return ByteKind::Forbidden;
+    }
+    if x < 0x7E {
+        return ByteKind::Plain;
+    }
+    if x == 0x7E {
+        return ByteKind::Tilde;
+    }
+    if x == 0x7F {
+        return ByteKind::Forbidden;
+    }
+    ByteKind::Graphic
+}
+
+// Whether a tilde may stand before this byte.
+pub fn is_letter(x: u8) -> bool
+    ensures { λ r. ⌜ r ≡ isLetter x ⌝ }
+{
+    if x == b'B' {
+        return true;
+    }
+    if x == b'b' {
+        return true;
+    }
+    if x == b'C' {
+        return true;
+    }
+    if x == b'c' {
+        return true;
+    }
+    if x == b'D' {
+        return true;
+    }
+    if x == b'd' {
+        return true;
+    }
+    x == b'G'
+}
+
+// Whether a graphic byte may follow the two bytes `before` and `last`.
+pub fn may_run(before: u8, last: u8) -> bool
+    ensures { λ r. ⌜ r ≡ mayRun before last ⌝ }
+{
+    if 0x80 <= last {
+        return true;
+    }
+    if before != 0x7E {
+        return false;
+    }
+    last == b'G'
+}
+
+// What is wrong with a text's byte among its neighbours: 24, 25, or 0 where nothing is.
+pub fn wrong(before: u8, last: u8, x: u8, behind: u8) -> u8
+    ensures { λ r. ⌜ r ≡ wrongOf before last x behind ⌝ }
+{
+    let kind = byte_kind(x);
+    match kind {
+        ByteKind::Plain => 0,
+        ByteKind::Tilde => {
+            if is_letter(behind) {
+                return 0;
+            }
+            25
+        }
+        ByteKind::Graphic => {
+            if may_run(before, last) {
+                return 0;
+            }
+            24
+        }
+        ByteKind::Forbidden => 24,
+    }
+}

@@ -1,0 +1,84 @@
+// The command language of a body (01, "The program"): one command read at a place, a whole body judged, a text measured.
+// No call has a `requires`: each answers for any bytes and any place.
+//   bytes      the byte at a place, and what kind a text's byte is      "It holds 20h to 7Dh; a tilde followed by one of .."
+//   text       a text's bytes up to its end                             "Text runs to the next caret or the end"
+//   number     one reader for every number                              "A number runs to the next caret or the end, .."
+//   table      the letters of each command and its form                 the table of commands
+//   reader     one command at a place, or its refusal 22 to 25          the table, and "Numbers for no"
+//   measure    width, fits, start column                                "Width: each text starts in `D`. .."
+// The definitions that the contracts cite stand in specs/ under the same names.
+mod bytes;
+mod measure;
+mod number;
+mod reader;
+mod table;
+mod text;
+
+pub use bytes::byte_kind;
+pub use measure::columns;
+pub use measure::fits;
+pub use measure::start_column;
+pub use measure::width;
+pub use reader::read_command;
+
+// What a byte is within a text.
+pub enum ByteKind {
+    Plain,
+    Tilde,
+    Graphic,
+    Forbidden,
+}
+
+// The sixteen commands, by their letters; `Scans` is `=`.
+pub enum Kind {
+    II,
+    IA,
+    IB,
+    S,
+    L,
+    E,
+    F,
+    R,
+    XS,
+    XF,
+    P,
+    Scans,
+    W,
+    XD,
+    XB,
+    Y,
+}
+
+// What follows a command's letters: a text, nothing, or a number with its least and greatest value and its most digits.
+pub enum Form {
+    Text,
+    Bare,
+    Number(usize, usize, usize),
+}
+
+// The row of the table that a command's letters name, with how many bytes the caret and the letters take.
+pub enum Row {
+    Known(Kind, Form, usize),
+    Unknown,
+}
+
+// A parameter read: its number (0 of a text or nothing) and the place behind it, or the refusal and its place.
+pub enum Parameter {
+    Right(usize, usize),
+    Wrong(u8, usize),
+}
+
+// One command: what it lacks is 0; `next` is the place behind it.
+pub struct Command {
+    pub kind: Kind,
+    pub number: usize,
+    pub text: usize,
+    pub len: usize,
+    pub next: usize,
+}
+
+// What stands at a place: a good command, or the refusal and its place.
+pub enum Reading {
+    Good(Command),
+    Bad(u8, usize),
+}

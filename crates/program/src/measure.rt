@@ -1,0 +1,103 @@
+// A text measured. Answers to 01: "Width: each text starts in `D`. Columns per character: .. A text fits if its width is at
+// most 96 .. A shown text starts at column (96 - width)/2, rounded down."
+ghost use mathlib.Core.Path.{_≡_};
+ghost use Prim.Native.Nat.{_+_, _≤_, min};
+ghost use Rattle.program.specs.Width.{fontColumns, columnsOf, fontOf, widthOf, widest, fitsOf, columnOf};
+
+// The columns of a character in a font, which goes by the letter that switches to it.
+fn font_columns(font: u8) -> usize
+    ensures { λ r. ⌜ r ≡ fontColumns font ⌝ }
+{
+    if font == b'D' {
+        return 6;
+    }
+    if font == b'd' {
+        return 7;
+    }
+    if font == b'B' {
+        return 8;
+    }
+    if font == b'b' {
+        return 9;
+    }
+    if font == b'C' {
+        return 5;
+    }
+    6
+}
+
+// The columns of one byte of a text, the byte before it being `last`.
+pub fn columns(font: u8, last: u8, x: u8) -> usize
+    ensures { λ r. ⌜ r ≡ columnsOf font last x ⌝ }
+{
+    if last == 0x7E {
+        return 0;
+    }
+    if x == 0x7E {
+        return 0;
+    }
+    if 0x80 <= x {
+        return 1;
+    }
+    font_columns(font)
+}
+
+// The font behind one byte of a text: a letter behind a tilde switches it, but for `G`.
+fn font_behind(font: u8, last: u8, x: u8) -> u8
+    ensures { λ r. ⌜ r ≡ fontOf font last x ⌝ }
+{
+    if last != 0x7E {
+        return font;
+    }
+    if x == b'G' {
+        return font;
+    }
+    x
+}
+
+// The sum of two counts of columns, or 1,000 where it is more.
+fn capped(sum: usize, more: usize) -> usize
+    requires { ⌜ (sum ≤ widest) × (more ≤ 9) ⌝ }
+    ensures { λ r. ⌜ r ≡ min (sum + more) widest ⌝ }
+{
+    let all = sum + more;
+    if 1000 < all {
+        return 1000;
+    }
+    all
+}
+
+// The width of a text in columns. It counts to 1,000, which no text of a body comes near.
+pub fn width(text: &[u8]) -> usize
+    ensures { λ r. ⌜ r ≡ min (widthOf 0x44 0 (now (text .entry))) widest ⌝ }
+{
+    let mut at: usize = 0;
+    let mut font = b'D';
+    let mut last: u8 = 0;
+    let mut sum: usize = 0;
+    while at < text.len() {
+        let x = text[at];
+        sum = capped(sum, columns(font, last, x));
+        font = font_behind(font, last, x);
+        last = x;
+        at += 1;
+    }
+    sum
+}
+
+// Whether a text of this width fits the sign.
+pub fn fits(width: usize) -> bool
+    ensures { λ r. ⌜ r ≡ fitsOf width ⌝ }
+{
+    width <= 96
+}
+
+// The column at which a shown text of this width starts; 0 where it doesn't fit.
+pub fn start_column(width: usize) -> usize
+    ensures { λ r. ⌜ r ≡ columnOf width ⌝ }
+{
+    if 96 < width {
+        return 0;
+    }
+    (96 - width) / 2
+}

@@ -1,0 +1,51 @@
+// The one reader of numbers. Answers to 01: "A number runs to the next caret or the end, and leading zeros count as digits",
+// and the refusal 23: "anything but a right number between letters and next caret or end".
+use crate::Parameter;
+use crate::bytes::byte_at;
+ghost use mathlib.Core.Path.{_≡_};
+ghost use Prim.Native.Nat.{_≤_};
+ghost use lib.ListN.{drop};
+ghost use Rattle.program.specs.Bytes.{paramOf};
+ghost use Rattle.program.specs.Number.{numberOf};
+
+// The number from a place on, of 1 to `most` digits and a value from `lo` to `hi`; 23 at the command's place where it is not.
+pub fn read_number(
+    body: &[u8],
+    place: usize,
+    from: usize,
+    lo: usize,
+    hi: usize,
+    most: usize,
+) -> Parameter
+    requires { ⌜ hi ≤ 255 ⌝ }
+    ensures { λ r. ⌜ r ≡ numberOf lo hi most place from (paramOf (drop from (now (body .entry)))) ⌝ }
+{
+    let mut at = from;
+    let mut value: usize = 0;
+    loop {
+        let x = byte_at(body, at);
+        if x == 0x5E {
+            if at == from {
+                return Parameter::Wrong(23, place);
+            }
+            if value < lo {
+                return Parameter::Wrong(23, place);
+            }
+            return Parameter::Right(value, at);
+        }
+        if x < b'0' {
+            return Parameter::Wrong(23, place);
+        }
+        if b'9' < x {
+            return Parameter::Wrong(23, place);
+        }
+        if most <= at - from {
+            return Parameter::Wrong(23, place);
+        }
+        value = value * 10 + (x - b'0') as usize;
+        if hi < value {
+            return Parameter::Wrong(23, place);
+        }
+        at += 1;
+    }
+}

@@ -2,6 +2,7 @@
 // sum and its own conversion to the next. A sum or a product past 64 bits stays at the greatest number.
 //   capped   the sum and the product that stay at the greatest number
 ghost use mathlib.Core.Path.{_≡_};
+ghost use Prim.Native.Nat.{_*_};
 ghost use Rattle.units.specs.Units.{sumOf, scansOf, millisOf};
 
 mod capped;
@@ -52,6 +53,13 @@ impl Scans {
 }
 
 impl Millis {
+    // Some tenths of a second.
+    pub fn tenths(n: u8) -> Millis
+        ensures { λ r. ⌜ r .0 ≡ 100 * n ⌝ }
+    {
+        Millis(100 * n as u64)
+    }
+
     // These milliseconds and those.
     pub fn add(self, more: Millis) -> Millis
         ensures { λ r. ⌜ r .0 ≡ sumOf (self .0) (more .0) ⌝ }

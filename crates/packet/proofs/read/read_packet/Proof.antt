@@ -6,96 +6,72 @@ use Rattle.packet.specs.Read.{readOf}
 use borrow.Author.Needs.{needs}
 use Rattle.packet.proofs.read.read_packet.Statement.{statement}
 use Rattle.packet.proofs.read.read_packet.Tie as tie
-use Rattle.packet.proofs.read.read_packet.Reads as reads
-use Rattle.packet.proofs.read.read_packet.Lts as lts
-use Rattle.packet.proofs.read.read_fields.Reads as read-fields-reads
-use Rattle.packet.proofs.sum.sum_of.Reads as sum-of-reads
 
--- src/read.rt:87:9
 returns : tie.Need-returns
 unfolding readOf
 returns c = search tests
 
--- src/read.rt:90:9
 returns-2 : tie.Need-returns-2
 unfolding readOf
 returns-2 c = search tests
 
--- src/read.rt:92:8
 shared-slice-read-if3 : tie.Need-shared-slice-read-if3
 shared-slice-read-if3 c = search needs
 
--- src/read.rt:92:8
 cast-if3 : tie.Need-cast-if3
 cast-if3 c = omega (arith, c .shared-slice-known2 .given 2)
 
--- src/read.rt:93:9
 returns-3 : tie.Need-returns-3
 unfolding readOf
 returns-3 c = search tests
 
--- src/read.rt:95:8
 sum-of-requires : tie.Need-sum-of-requires
 sum-of-requires c κs = search needs
 
--- src/read.rt:96:9
 returns-4 : tie.Need-returns-4
 unfolding readOf
 returns-4 c = search (tests, ← (c .before .sum-of .ensures))
 
--- src/read.rt:98:8
 shared-slice-read-if5 : tie.Need-shared-slice-read-if5
 shared-slice-read-if5 c = search needs
 
--- src/read.rt:99:9
 returns-5 : tie.Need-returns-5
 unfolding readOf
 returns-5 c = search (tests, ← (c .before .before .before .sum-of .ensures))
 
--- src/read.rt:101:8
 shared-slice-read-if6 : tie.Need-shared-slice-read-if6
 shared-slice-read-if6 c = search needs
 
--- src/read.rt:102:9
 returns-6 : tie.Need-returns-6
 unfolding readOf
 returns-6 c = search (tests, ← (c .before .before .before .before .before .sum-of .ensures))
 
--- src/read.rt:104:14
 sub-if7 : tie.Need-sub-if7
 sub-if7 c = search needs
 
--- src/read.rt:104:8
 shared-slice-read-if7 : tie.Need-shared-slice-read-if7
 shared-slice-read-if7 c = search needs
 
--- src/read.rt:105:9
 returns-7 : tie.Need-returns-7
 unfolding readOf
 returns-7 c = search (tests, ← (c .before .before .before .before .before .before .before .sum-of .ensures))
 
--- src/read.rt:107:15
 shared-slice-read-if8 : tie.Need-shared-slice-read-if8
 shared-slice-read-if8 c = search needs
 
--- src/read.rt:108:9
 returns-8 : tie.Need-returns-8
 unfolding readOf
 returns-8 c = search (tests, ← (c .before .before .before .before .before .before .before .before .before .sum-of .ensures))
 
--- src/read.rt:110:17
 shared-slice-read-read-fields : tie.Need-shared-slice-read-read-fields
 shared-slice-read-read-fields c = search needs
 
--- src/read.rt:110:27
 shared-slice-read-read-fields-2 : tie.Need-shared-slice-read-read-fields-2
 shared-slice-read-read-fields-2 c = search needs
 
--- src/read.rt:110:5
 read-fields-requires : tie.Need-read-fields-requires
 read-fields-requires c κs = search needs
 
--- src/read.rt:82:1
 returns-9 : tie.Need-returns-9
 returns-9 c =
     let a = c .before .before .before .before .before .before .before .before .before .before .before .before .before .before .before .before .before .before .args in

@@ -5,83 +5,61 @@ use Rattle.basis.proofs.Tests.{tests}
 use borrow.Author.Needs.{needs}
 use Rattle.packet.proofs.reply.read_reply.Statement.{statement}
 use Rattle.packet.proofs.reply.read_reply.Tie as tie
-use Rattle.packet.proofs.reply.read_reply.Reads as reads
-use Rattle.packet.proofs.reply.read_reply.Lts as lts
-use Rattle.packet.proofs.reply.read_status.Reads as read-status-reads
-use Rattle.packet.proofs.reply.turned_mid.Reads as turned-mid-reads
-use Rattle.packet.proofs.sum.sum_of.Reads as sum-of-reads
 
--- src/reply.rt:105:9
 returns : tie.Need-returns
 unfolding heardOf
 returns c = search tests
 
--- src/reply.rt:107:8
 sum-of-requires : tie.Need-sum-of-requires
 sum-of-requires c κs = search needs
 
--- src/reply.rt:108:9
 returns-2 : tie.Need-returns-2
 unfolding heardOf
 returns-2 c = search (tests, ← (c .before .sum-of .ensures))
 
--- src/reply.rt:110:8
 shared-slice-read-if3 : tie.Need-shared-slice-read-if3
 shared-slice-read-if3 c = search needs
 
--- src/reply.rt:110:20
 turned-mid-requires : tie.Need-turned-mid-requires
 turned-mid-requires c κs = search needs
 
--- src/reply.rt:111:9
 returns-3 : tie.Need-returns-3
 unfolding heardOf
 returns-3 c = search (tests, ← (c .before .before .before .before .sum-of .ensures), ← (c .before .turned-mid .ensures))
 
--- src/reply.rt:113:8
 shared-slice-read-if4 : tie.Need-shared-slice-read-if4
 shared-slice-read-if4 c = search needs
 
--- src/reply.rt:114:9
 returns-4 : tie.Need-returns-4
 unfolding heardOf
 returns-4 c = search (tests, ← (c .before .before .before .before .before .before .sum-of .ensures), ← (c .before .before .before .turned-mid .ensures))
 
--- src/reply.rt:116:8
 shared-slice-read-if5 : tie.Need-shared-slice-read-if5
 shared-slice-read-if5 c = search needs
 
--- src/reply.rt:117:9
 returns-5 : tie.Need-returns-5
 unfolding heardOf
 returns-5 c = search (tests, ← (c .before .before .before .before .before .before .before .before .sum-of .ensures), ← (c .before .before .before .before .before .turned-mid .ensures))
 
--- src/reply.rt:119:8
 shared-slice-read-if6 : tie.Need-shared-slice-read-if6
 shared-slice-read-if6 c = search needs
 
--- src/reply.rt:120:9
 returns-6 : tie.Need-returns-6
 unfolding heardOf
 returns-6 c = search (tests, ← (c .before .before .before .before .before .before .before .before .before .before .sum-of .ensures), ← (c .before .before .before .before .before .before .before .turned-mid .ensures))
 
--- src/reply.rt:122:17
 shared-slice-read-read-status : tie.Need-shared-slice-read-read-status
 shared-slice-read-read-status c = search needs
 
--- src/reply.rt:122:27
 shared-slice-read-read-status-2 : tie.Need-shared-slice-read-read-status-2
 shared-slice-read-read-status-2 c = search needs
 
--- src/reply.rt:122:37
 shared-slice-read-read-status-3 : tie.Need-shared-slice-read-read-status-3
 shared-slice-read-read-status-3 c = search needs
 
--- src/reply.rt:122:5
 read-status-requires : tie.Need-read-status-requires
 read-status-requires c κs = search needs
 
--- src/reply.rt:101:1
 returns-7 : tie.Need-returns-7
 returns-7 c =
     let a = c .before .before .before .before .before .before .before .before .before .before .before .before .before .before .before .before .before .args in

@@ -4,52 +4,37 @@ use Rattle.packet.proofs.Writing.{packet-refused, packet-wrote}
 use borrow.Author.Needs.{needs}
 use Rattle.packet.proofs.write.write_packet.Statement.{statement}
 use Rattle.packet.proofs.write.write_packet.Tie as tie
-use Rattle.packet.proofs.write.write_packet.Reads as reads
-use Rattle.packet.proofs.write.write_packet.Lts as lts
-use Rattle.packet.proofs.write.lesser.Reads as lesser-reads
-use Rattle.packet.proofs.write.write_fields.Reads as write-fields-reads
 
--- src/write.rt:90:9
 returns : tie.Need-returns
 returns c = search tests
 
--- src/write.rt:93:9
 returns-2 : tie.Need-returns-2
 returns-2 c = search tests
 
--- src/write.rt:96:9
 returns-3 : tie.Need-returns-3
 returns-3 c = search tests
 
--- src/write.rt:98:18
 add-total : tie.Need-add-total
 add-total c = search needs
 
--- src/write.rt:101:9
 returns-4 : tie.Need-returns-4
 returns-4 c = search tests
 
--- src/write.rt:103:16
 mul-from : tie.Need-mul-from
 mul-from c = search needs
 
--- src/write.rt:104:24
 add-lesser : tie.Need-add-lesser
 add-lesser c = search needs
 
--- src/write.rt:104:9
 lesser-requires : tie.Need-lesser-requires
 lesser-requires c κs = search needs
 
--- src/write.rt:105:15
 sub-len : tie.Need-sub-len
 sub-len c = search needs
 
--- src/write.rt:106:20
 add-if5 : tie.Need-add-if5
 add-if5 c = search needs
 
--- src/write.rt:107:9
 returns-5 : tie.Need-returns-5
 returns-5 c =
     let a = c .before .before .before .before .before .before .before .before .args in
@@ -59,43 +44,33 @@ returns-5 c =
     (c .before .lesser .ensures)
     (search needs)
 
--- src/write.rt:109:18
 mul-fifth : tie.Need-mul-fifth
 mul-fifth c = search needs
 
--- src/write.rt:109:18
 add-fifth : tie.Need-add-fifth
 add-fifth c = search needs
 
--- src/write.rt:109:17
 cast-fifth : tie.Need-cast-fifth
 cast-fifth c = search needs
 
--- src/write.rt:110:34
 sub-write-fields : tie.Need-sub-write-fields
 sub-write-fields c = search needs
 
--- src/write.rt:110:34
 part-write-fields-start : tie.Need-part-write-fields-start
 part-write-fields-start c = search needs
 
--- src/write.rt:110:34
 part-write-fields-end : tie.Need-part-write-fields-end
 part-write-fields-end c = search needs
 
--- src/write.rt:110:5
 write-fields-requires : tie.Need-write-fields-requires
 write-fields-requires c κs = search needs
 
--- src/write.rt:111:20
 add-t15 : tie.Need-add-t15
 add-t15 c = search needs
 
--- src/write.rt:85:1
 same-length : tie.Need-same-length
 same-length c = search needs
 
--- src/write.rt:85:1
 returns-6 : tie.Need-returns-6
 returns-6 c =
     let a = c .before .before .before .before .before .before .before .before .before .before .before .before .before .args in

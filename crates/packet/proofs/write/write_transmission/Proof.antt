@@ -10,9 +10,6 @@ use Rattle.packet.specs.Wire.{totalOf, packetsOf}
 use Rattle.packet.proofs.Writing.{next-packet, transmission-refused, transmission-wrote}
 use Rattle.packet.proofs.write.write_transmission.Statement.{statement}
 use Rattle.packet.proofs.write.write_transmission.Tie as tie
-use Rattle.packet.proofs.write.write_transmission.Reads as reads
-use Rattle.packet.proofs.write.write_transmission.Lts as lts
-use Rattle.packet.proofs.write.write_packet.Reads as write-packet-reads
 
 abbrev Inv-loop : tie.InvT-loop
 Inv-loop mid id body out₀ n total size position₀ out position = (position ≤ totalOf body) × ((out ≡ laid (packetsOf mid id body position) out₀) × (length out ≡ length out₀))
@@ -20,78 +17,60 @@ Inv-loop mid id body out₀ n total size position₀ out position = (position �
 abbrev μ-loop : tie.MeasureT-loop
 μ-loop mid id body out₀ n total size position₀ out position = totalOf body - position
 
--- src/write.rt:120:9
 returns : tie.Need-returns Inv-loop μ-loop
 returns c = search tests
 
--- src/write.rt:123:9
 returns-2 : tie.Need-returns-2 Inv-loop μ-loop
 returns-2 c = search tests
 
--- src/write.rt:126:9
 returns-3 : tie.Need-returns-3 Inv-loop μ-loop
 returns-3 c = search tests
 
--- src/write.rt:128:18
 add-total : tie.Need-add-total Inv-loop μ-loop
 add-total c = search needs
 
--- src/write.rt:129:16
 mul-size : tie.Need-mul-size Inv-loop μ-loop
 mul-size c = search needs
 
--- src/write.rt:129:16
 add-size : tie.Need-add-size Inv-loop μ-loop
 add-size c = search needs
 
--- src/write.rt:131:9
 returns-4 : tie.Need-returns-4 Inv-loop μ-loop
 returns-4 c =
     let a = c .before .before .before .before .before .before .args in
     transmission-refused (a .mid) (a .id) (a .body .now) (a .out .now) (search needs) (search needs) (search needs) (search needs)
 
--- src/write.rt:134:5
 loop-holds : tie.Need-loop-holds Inv-loop μ-loop
 unfolding laid packetsOf
 loop-holds c = search needs
 
--- src/write.rt:134:12
 cast-loop : tie.Need-cast-loop Inv-loop μ-loop
 cast-loop c = search needs
 
--- src/write.rt:135:23
 cast-at : tie.Need-cast-at Inv-loop μ-loop
 cast-at c = search needs
 
--- src/write.rt:135:18
 mul-at : tie.Need-mul-at Inv-loop μ-loop
 mul-at c = search needs
 
--- src/write.rt:136:47
 sub-write-packet : tie.Need-sub-write-packet Inv-loop μ-loop
 sub-write-packet c = search needs
 
--- src/write.rt:136:47
 part-write-packet-start : tie.Need-part-write-packet-start Inv-loop μ-loop
 part-write-packet-start c = search needs
 
--- src/write.rt:136:47
 part-write-packet-end : tie.Need-part-write-packet-end Inv-loop μ-loop
 part-write-packet-end c = search needs
 
--- src/write.rt:136:9
 write-packet-requires : tie.Need-write-packet-requires Inv-loop μ-loop
 write-packet-requires c κs = search needs
 
--- src/write.rt:137:9
 add-position : tie.Need-add-position Inv-loop μ-loop
 add-position c = search needs
 
--- src/write.rt:134:5
 loop-less : tie.Need-loop-less Inv-loop μ-loop
 loop-less c = search needs
 
--- src/write.rt:134:5
 loop-again : tie.Need-loop-again Inv-loop μ-loop
 loop-again c =
     let a = c .before .before .before .before .before .before .before .before .before .before .before .before .args in
@@ -103,11 +82,9 @@ loop-again c =
           (c .before .before .write-packet .ensures),
     )
 
--- src/write.rt:115:1
 same-length : tie.Need-same-length Inv-loop μ-loop
 same-length c = search needs
 
--- src/write.rt:115:1
 returns-5 : tie.Need-returns-5 Inv-loop μ-loop
 returns-5 c =
     let a = c .before .before .before .before .before .before .before .before .args in

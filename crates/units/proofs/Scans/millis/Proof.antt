@@ -4,48 +4,34 @@ use Rattle.units.proofs.Products.{rounds-summed, rest-small}
 use borrow.Author.Needs.{needs}
 use Rattle.units.proofs.Scans.millis.Statement.{statement}
 use Rattle.units.proofs.Scans.millis.Tie as tie
-use Rattle.units.proofs.Scans.millis.Reads as reads
-use Rattle.units.proofs.Scans.millis.Lts as lts
-use Rattle.units.proofs.capped.capped_product.Reads as capped-product-reads
-use Rattle.units.proofs.capped.capped_sum.Reads as capped-sum-reads
 
--- src/lib.rt:47:18
 add-by : tie.Need-add-by
 add-by c = search needs
 
--- src/lib.rt:48:21
 div-whole : tie.Need-div-whole
 div-whole c = search needs
 
--- src/lib.rt:49:20
 rem-rest : tie.Need-rem-rest
 rem-rest c = search needs
 
--- src/lib.rt:50:27
 capped-product-requires : tie.Need-capped-product-requires
 capped-product-requires c κs = search needs
 
--- src/lib.rt:50:56
 mul-capped-sum : tie.Need-mul-capped-sum
 mul-capped-sum c = omega (arith, rest-small (c .before .args .self .0) (c .before .args .pace) (search needs))
 
--- src/lib.rt:50:70
 sub-capped-sum : tie.Need-sub-capped-sum
 sub-capped-sum c = search needs
 
--- src/lib.rt:50:56
 add-capped-sum : tie.Need-add-capped-sum
 add-capped-sum c = omega (arith, rest-small (c .before .args .self .0) (c .before .args .pace) (search needs))
 
--- src/lib.rt:50:55
 div-capped-sum : tie.Need-div-capped-sum
 div-capped-sum c = search needs
 
--- src/lib.rt:50:16
 capped-sum-requires : tie.Need-capped-sum-requires
 capped-sum-requires c κs = search needs
 
--- src/lib.rt:43:5
 returns : tie.Need-returns
 returns c =
     rounds-summed (c .before .before .args .self .0) (c .before .before .args .pace) (c .before .capped-product .result) (c .capped-sum .result)

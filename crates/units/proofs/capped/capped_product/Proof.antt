@@ -6,27 +6,20 @@ use Rattle.units.proofs.Products.{product-fits, product-past}
 use borrow.Author.Needs.{needs}
 use Rattle.units.proofs.capped.capped_product.Statement.{statement}
 use Rattle.units.proofs.capped.capped_product.Tie as tie
-use Rattle.units.proofs.capped.capped_product.Reads as reads
-use Rattle.units.proofs.capped.capped_product.Lts as lts
 
--- src/capped.rt:19:9
 returns : tie.Need-returns
 returns c = omega (arith, ap (λ (n : ℕ). c .before .args .a * n) (c .if1 .taken))
 
--- src/capped.rt:21:8
 div-if2 : tie.Need-div-if2
 div-if2 c = search needs
 
--- src/capped.rt:22:9
 returns-2 : tie.Need-returns-2
 returns-2 c =
     omega (arith, product-past (c .before .before .args .a) (c .before .before .args .b) (c .before .if1 .left) (c .if2 .taken))
 
--- src/capped.rt:24:5
 mul-result : tie.Need-mul-result
 mul-result c = omega (arith, product-fits (c .before .before .args .a) (c .before .before .args .b) (c .before .if1 .left) (c .if2 .left))
 
--- src/capped.rt:15:1
 returns-3 : tie.Need-returns-3
 returns-3 c = omega (arith, product-fits (c .before .before .args .a) (c .before .before .args .b) (c .before .if1 .left) (c .if2 .left))
 

@@ -1,0 +1,36 @@
+use Rattle.perform.specs.Settings.{soundOf}
+use Rattle.basis.proofs.Tests.{tests}
+use Rattle.perform.proofs.settings.Settings.sound.Statement.{statement}
+use Rattle.perform.proofs.settings.Settings.sound.Tie as tie
+
+returns : tie.Need-returns
+unfolding soundOf
+returns c = search tests
+
+returns-2 : tie.Need-returns-2
+unfolding soundOf
+returns-2 c = search tests
+
+returns-3 : tie.Need-returns-3
+unfolding soundOf
+returns-3 c = search tests
+
+returns-4 : tie.Need-returns-4
+unfolding soundOf
+returns-4 c = search tests
+
+returns-5 : tie.Need-returns-5
+unfolding soundOf
+returns-5 c = search tests
+
+returns-6 : tie.Need-returns-6
+unfolding soundOf
+returns-6 c = search tests
+
+returns-7 : tie.Need-returns-7
+unfolding soundOf
+returns-7 c = search tests
+
+pub sound-spec : {M : Type 1} → statement M
+sound-spec =
+    tie.close (tie.spec returns returns-2 returns-3 returns-4 returns-5 returns-6 returns-7)

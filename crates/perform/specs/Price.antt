@@ -1,0 +1,79 @@
+-- What a command answers when it is performed, and its price.
+-- 01: "its kind (`S` for an `I` that scrolls), its number as written, its text's place and length in the body, start column, scans
+-- and milliseconds; what a command lacks is 0, a scroll's start column too"; "`S` with width 0 costs nothing. Otherwise it makes
+-- width + 96 shifts of k scans each. `IA` and `IB` take 7 scans. .. `W` n is 100n ms and no scans. All else is 0."
+use Prim.Native.Nat.{ℕ, _*_}
+use mathlib.Core.Bool.{Bool, true, false}
+use lib.Dec.{eqb}
+use Rattle.basis.specs.Choice.{when}
+use Rattle.units.specs.Units.{sumOf, scansOf as scansEach, millisOf as millisAt}
+use Rattle.program.specs.Width.{fitsOf, columnOf as centred}
+use Rattle.program.specs.declared.Kind.{Kind}
+use Rattle.program.specs.declared.Kind.the-variants.{II, IA, IB, S, L, E, F, R, XS, XF, P, Scans, W, XD, XB, Y}
+use Rattle.perform.specs.declared.price.Doing.{Doing}
+use Rattle.perform.specs.declared.price.Doing.the-variants.{Shows, Streams, Waits, Rests}
+use Rattle.perform.specs.declared.price.Performed.{Performed}
+use Rattle.perform.specs.declared.settings.Settings.{Settings}
+
+-- a text shown in so many scans, a text streamed, a wait, or nothing that takes time
+abbrev pub doingOf : Kind → Doing
+doingOf II = Shows 0
+doingOf IA = Shows 7
+doingOf IB = Shows 7
+doingOf S = Streams
+doingOf W = Waits
+doingOf L = Rests
+doingOf E = Rests
+doingOf F = Rests
+doingOf R = Rests
+doingOf XS = Rests
+doingOf XF = Rests
+doingOf P = Rests
+doingOf Scans = Rests
+doingOf XD = Rests
+doingOf XB = Rests
+doingOf Y = Rests
+
+-- the shifts of a scroll: none of width 0, else width + 96
+abbrev pub shiftsOf : ℕ → ℕ
+shiftsOf width = when (eqb width 0) 0 (sumOf width 96)
+
+-- a text that is shown but doesn't fit acts as `S`
+abbrev pub scansOf : Doing → (width each : ℕ) → ℕ
+scansOf (Shows n) width each = when (fitsOf width) n (scansEach (shiftsOf width) each)
+scansOf Streams width each = scansEach (shiftsOf width) each
+scansOf Waits width each = 0
+scansOf Rests width each = 0
+
+abbrev pub millisOf : Doing → (number scans pace : ℕ) → ℕ
+millisOf (Shows n) number scans pace = millisAt scans pace
+millisOf Streams number scans pace = millisAt scans pace
+millisOf Waits number scans pace = 100 * number
+millisOf Rests number scans pace = 0
+
+abbrev pub columnOf : Doing → ℕ → ℕ
+columnOf (Shows n) width = when (fitsOf width) (centred width) 0
+columnOf Streams width = 0
+columnOf Waits width = 0
+columnOf Rests width = 0
+
+abbrev pub shownOf : Doing → Kind → ℕ → Kind
+shownOf (Shows n) k width = when (fitsOf width) k S
+shownOf Streams k width = k
+shownOf Waits k width = k
+shownOf Rests k width = k
+
+-- a command of this kind, number, text place and length, and width of its text, performed at these settings
+unfoldable pub answerOf : Kind → (number text len width : ℕ) → Settings → Performed
+answerOf k number text len width σ =
+    let d = doingOf k in
+    let n = scansOf d width (σ .scans) in
+    record {
+      kind = shownOf d k width;
+      number = number;
+      text = text;
+      len = len;
+      column = columnOf d width;
+      scans = record { 0 = n };
+      millis = record { 0 = millisOf d number n (σ .pace) };
+    }

@@ -1,0 +1,81 @@
+-- What a sign is set to, what of it a command changes, and which settings are in range.
+-- 01: "Pace and scan setting last until changed or reset"; "`XB`: above 31 acts as 31, 0 and 1 end forcing"; of a sound record
+-- "pace, scans, threshold in range, brightness 0 or 2 to 31".
+use Prim.Native.Nat.{ℕ, min}
+use mathlib.Core.Bool.{Bool, true, false, not}
+use lib.Dec.{eqb, ltb, leb}
+use Rattle.basis.specs.Choice.{when, _and_}
+use Rattle.program.specs.declared.Kind.{Kind}
+use Rattle.program.specs.declared.Kind.the-variants.{II, IA, IB, S, L, E, F, R, XS, XF, P, Scans, W, XD, XB, Y}
+use Rattle.perform.specs.declared.settings.Settings.{Settings}
+
+-- a value that a setting takes, or none: it stays
+pub data Change (A : Type 0) : Type 0 where
+  stays : Change A
+  takes : A → Change A
+
+abbrev pub changed : {A : Type 0} → Change A → A → A
+changed stays x = x
+changed (takes y) x = y
+
+-- what a command changes
+pub record Changes : Type 0 where
+  pub pace : Change ℕ
+  pub scans : Change ℕ
+  pub sink : Change Bool
+  pub dim : Change ℕ
+  pub bright : Change ℕ
+
+abbrev pub none : Changes
+none = record { pace = stays; scans = stays; sink = stays; dim = stays; bright = stays }
+
+abbrev pub applied : Changes → Settings → Settings
+applied c σ =
+    record {
+      pace = changed (c .pace) (σ .pace);
+      scans = changed (c .scans) (σ .scans);
+      sink = changed (c .sink) (σ .sink);
+      dim = changed (c .dim) (σ .dim);
+      bright = changed (c .bright) (σ .bright);
+    }
+
+abbrev pub sinks : Bool → Changes
+sinks b = record { pace = stays; scans = stays; sink = takes b; dim = stays; bright = stays }
+
+-- above 31 acts as 31, 0 and 1 end forcing
+abbrev pub forcedOf : ℕ → ℕ
+forcedOf n = when (ltb n 2) 0 (when (ltb 31 n) 31 n)
+
+-- what a command of a kind and a number changes
+abbrev pub changesOf : Kind → ℕ → Changes
+changesOf P n = record { pace = takes n; scans = stays; sink = stays; dim = stays; bright = stays }
+changesOf Scans n = record { pace = stays; scans = takes n; sink = stays; dim = stays; bright = stays }
+changesOf XS n = sinks true
+changesOf XF n = sinks false
+changesOf XD n = record { pace = stays; scans = stays; sink = stays; dim = takes n; bright = stays }
+changesOf XB n = record { pace = stays; scans = stays; sink = stays; dim = stays; bright = takes (forcedOf n) }
+changesOf II n = none
+changesOf IA n = none
+changesOf IB n = none
+changesOf S n = none
+changesOf L n = none
+changesOf E n = none
+changesOf F n = none
+changesOf R n = none
+changesOf W n = none
+changesOf Y n = none
+
+-- the settings behind a command
+abbrev pub behindOf : Kind → ℕ → Settings → Settings
+behindOf k n σ = applied (changesOf k n) σ
+
+-- 1 to 20, 1 to 6, 1 to 255, 0 or 2 to 31
+unfoldable pub soundOf : Settings → Bool
+soundOf σ =
+    not (ltb (σ .pace) 1)
+    and not (ltb 20 (σ .pace))
+    and not (ltb (σ .scans) 1)
+    and not (ltb 6 (σ .scans))
+    and not (ltb (σ .dim) 1)
+    and not (eqb (σ .bright) 1)
+    and leb (σ .bright) 31

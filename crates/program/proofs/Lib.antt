@@ -5,3 +5,4 @@ pub mod Numbers
 pub mod Widths
 pub mod Rows
 pub mod Parameters
+pub mod Laws

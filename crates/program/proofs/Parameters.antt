@@ -21,7 +21,7 @@ use Rattle.program.specs.declared.Parameter.the-variants.{Right, Wrong}
 use Rattle.program.proofs.Places.{param-end, param-next}
 
 -- what is not right ends nowhere, and what is ends behind its bytes
-abbrev Ends : ℕ → Parameter → Type 0
+abbrev pub Ends : ℕ → Parameter → Type 0
 Ends end (Right n next) = next ≡ end
 Ends end (Wrong n q) = Unit {0}
 

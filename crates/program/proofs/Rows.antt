@@ -19,47 +19,48 @@ use Rattle.program.specs.declared.Row.the-variants.{Known, Unknown}
 use Rattle.program.proofs.Places.{getD-other, drop-next}
 use Rattle.program.proofs.Bools.{and-left, and-right}
 
--- the caret and the letters are two or three bytes, and a number is a byte at most
-plain : List ℕ → Form → Bool
-plain ls f = leb 2 (length ls) and (leb (length ls) 3 and leb (greatestOf f) 255)
+-- a test that every line of the table passes
+abbrev pub holds : (Kind → Form → ℕ → Bool) → List Line → Bool
+holds t [] = true
+holds t (line ls k f ∷ rows) = t k f (length ls) and holds t rows
 
-all-plain : List Line → Bool
-all-plain [] = true
-all-plain (line ls k f ∷ t) = plain ls f and all-plain t
+found-holds : (t : Kind → Form → ℕ → Bool) (rows : List Line) → holds t rows ≡ true → (s : List ℕ) (k : Kind) (f : Form) (n : ℕ) → rowAt rows s ≡ Known k f n → t k f n ≡ true
+found-holds t [] a s k f n e = let z : _≡_ {A = ℕ} 0 1 = cc in absurd (omega arith)
+found-holds t (line ls j g ∷ rows) a s k f n e =
+    go (begins ls s) e (found-holds t rows (and-right (t j g (length ls)) _ a) s k f n)
+  where
+    go : (b : Bool) → when b (Known j g (length ls)) (rowAt rows s) ≡ Known k f n → (rowAt rows s ≡ Known k f n → t k f n ≡ true) → t k f n ≡ true
+    go true e′ h =
+        let p = and-left (t j g (length ls)) _ a in
+        let x : j ≡ k = cc in
+        let y : g ≡ f = cc in
+        let z : length ls ≡ n = cc in
+        rw (← x, ← y, ← z) p
+    go false e′ h = h e′
+
+-- what every line of the table passes, the row passes that the bytes name
+pub row-holds : (t : Kind → Form → ℕ → Bool) → holds t table ≡ true → (s : List ℕ) (k : Kind) (f : Form) (n : ℕ) → rowAt table s ≡ Known k f n → t k f n ≡ true
+row-holds t a = found-holds t table a
+
+-- the caret and the letters are two or three bytes, and a number is a byte at most
+plain : Kind → Form → ℕ → Bool
+plain k f n = leb 2 n and (leb n 3 and leb (greatestOf f) 255)
 
 pub record Plainly (f : Form) (n : ℕ) : Type 0 where
   pub least : 2 ≤ n
   pub most : n ≤ 3
   pub byte : greatestOf f ≤ 255
 
-plain-shown : (ls : List ℕ) (f : Form) → plain ls f ≡ true → Plainly f (length ls)
-unfolding plain
-plain-shown ls f e =
-    let r = and-right (leb 2 (length ls)) _ e in
-    record {
-      least = leb-true 2 (length ls) (and-left (leb 2 (length ls)) _ e);
-      most = leb-true (length ls) 3 (and-left (leb (length ls) 3) _ r);
-      byte = leb-true (greatestOf f) 255 (and-right (leb (length ls) 3) _ r);
-    }
-
-found-plain : (t : List Line) → all-plain t ≡ true → (s : List ℕ) (k : Kind) (f : Form) (n : ℕ) → rowAt t s ≡ Known k f n → Plainly f n
-unfolding all-plain
-found-plain [] a s k f n e = let z : _≡_ {A = ℕ} 0 1 = cc in absurd (omega arith)
-found-plain (line ls j g ∷ t) a s k f n e =
-    go (begins ls s) e (found-plain t (and-right (plain ls g) _ a) s k f n)
-  where
-    go : (t′ : Bool) → when t′ (Known j g (length ls)) (rowAt t s) ≡ Known k f n → (rowAt t s ≡ Known k f n → Plainly f n) → Plainly f n
-    go true e′ h =
-        let p = plain-shown ls g (and-left (plain ls g) _ a) in
-        let x : g ≡ f = cc in
-        let y : length ls ≡ n = cc in
-        rw (← x, ← y) p
-    go false e′ h = h e′
-
--- a row that the bytes name
 pub row-plain : (s : List ℕ) (k : Kind) (f : Form) (n : ℕ) → rowAt table s ≡ Known k f n → Plainly f n
-unfolding all-plain plain
-row-plain = found-plain table refl
+unfolding plain
+row-plain s k f n h =
+    let e = found-holds plain table refl s k f n h in
+    let r = and-right (leb 2 n) _ e in
+    record {
+      least = leb-true 2 n (and-left (leb 2 n) _ e);
+      most = leb-true n 3 (and-left (leb n 3) _ r);
+      byte = leb-true (greatestOf f) 255 (and-right (leb n 3) _ r);
+    }
 
 three : (s : List ℕ) → 0 < length s → rowAt table s ≡ rowAt table (getD s 0 caret ∷ getD s 1 caret ∷ getD s 2 caret ∷ [])
 three [] h = absurd (omega arith)

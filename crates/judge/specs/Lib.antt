@@ -1,0 +1,5 @@
+pub mod Token
+pub mod Structure
+pub mod Verdict
+pub mod Flow
+pub mod Standing

@@ -1,0 +1,42 @@
+-- Where a place stands in a body: what a sound record's place and loop place are held to.
+-- 01: "an accepted body and a place at a command, with the loop place behind the enclosing `L` and a count left from 1 to its
+-- number inside a loop (at its closing command too), both 0 outside".
+use Prim.Native.Nat.{ℕ}
+use mathlib.Core.List.{List, [], _∷_}
+use mathlib.Core.Bool.{Bool, true, false}
+use lib.Dec.{eqb}
+use Rattle.basis.specs.Choice.{when}
+use Rattle.judge.specs.Token.{Tok, tokensOf}
+use Rattle.judge.specs.Structure.{Move, stop, go, moveOf}
+use Rattle.judge.specs.Verdict.{judgeOf}
+use Rattle.judge.specs.declared.Open.{Open}
+use Rattle.judge.specs.declared.Verdict.{Verdict}
+use Rattle.judge.specs.declared.Verdict.the-variants.{Finite, Endless, Refused}
+use Rattle.judge.specs.declared.Standing.{Standing}
+use Rattle.judge.specs.declared.Standing.the-variants.{Nowhere, Outside, Inside}
+
+-- in the innermost open loop, or outside
+abbrev pub insideOf : List Open → Standing
+insideOf [] = Outside
+insideOf (l ∷ o) = Inside (l .behind) (l .number)
+
+abbrev pub stood : Move → (ℕ → ℕ → Bool → List Open → Standing) → Standing
+stood (stop n q) rest = Nowhere
+stood (go next m e o) rest = rest next m e o
+
+-- the place q among the commands from place p on
+abbrev pub standAt : ℕ → List Tok → (room place : ℕ) → (ended : Bool) → List Open → Standing
+standAt q [] m p e o = Nowhere
+standAt q (t ∷ ts) m p e o =
+    when (eqb p q) (insideOf o)
+    (stood (moveOf t m p e o) (λ next m′ e′ o′. standAt q ts m′ next e′ o′))
+
+-- a refused body has no place
+abbrev pub ofAccepted : Verdict → Standing → Standing
+ofAccepted Finite s = s
+ofAccepted Endless s = s
+ofAccepted (Refused n p) s = Nowhere
+
+-- the place q of the body b
+unfoldable pub standOf : List ℕ → ℕ → Standing
+standOf b q = ofAccepted (judgeOf b) (standAt q (tokensOf b 0) 1 0 false [])

@@ -1,0 +1,40 @@
+-- A whole body judged.
+-- 01: "28 and 21 come first. Then commands from the left; .. An unclosed `L` is judged at the end." 28: "body over 84 (place
+-- 84)"; 21: "empty or first byte no caret (place 0)". "a program with one of them is endless", of `F` and an outer `R`.
+use Prim.Native.Nat.{ℕ}
+use mathlib.Core.List.{List, [], _∷_}
+use mathlib.Core.Bool.{Bool, true, false}
+use lib.Dec.{eqb, ltb}
+use lib.ListN.{length, getD}
+use Rattle.basis.specs.Choice.{when}
+use Rattle.program.specs.Bytes.{caret}
+use Rattle.judge.specs.Token.{Tok, tokensOf}
+use Rattle.judge.specs.Structure.{Move, stop, go, moveOf}
+use Rattle.judge.specs.declared.Open.{Open}
+use Rattle.judge.specs.declared.Verdict.{Verdict}
+use Rattle.judge.specs.declared.Verdict.the-variants.{Finite, Endless, Refused}
+
+-- at the end: an unclosed loop is 26 at its `L`; otherwise accepted
+abbrev pub endOf : Bool → List Open → Verdict
+endOf true [] = Endless
+endOf false [] = Finite
+endOf e (l ∷ o) = Refused 26 (l .caret)
+
+abbrev pub judged : Move → (ℕ → ℕ → Bool → List Open → Verdict) → Verdict
+judged (stop n q) rest = Refused n q
+judged (go next m e o) rest = rest next m e o
+
+-- the commands from a place on, judged from the left; `room` loops may still be opened
+abbrev pub judge : List Tok → (room place : ℕ) → (ended : Bool) → List Open → Verdict
+judge [] m p e o = endOf e o
+judge (t ∷ ts) m p e o = judged (moveOf t m p e o) (λ next m′ e′ o′. judge ts m′ next e′ o′)
+
+-- a body's commands; loops don't nest, so one may be open
+abbrev pub commandsOf : List ℕ → Verdict
+commandsOf b = judge (tokensOf b 0) 1 0 false []
+
+-- a body
+unfoldable pub judgeOf : List ℕ → Verdict
+judgeOf b =
+    when (ltb 84 (length b)) (Refused 28 84)
+    (when (eqb (getD b 0 0) caret) (commandsOf b) (Refused 21 0))

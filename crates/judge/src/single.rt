@@ -1,0 +1,57 @@
+// One command judged among those before it. Answers to 01: "within one, 27, 22, then 23 to 25 (first byte at fault), then 26".
+use crate::Flow;
+use crate::Open;
+use crate::Rule;
+use crate::Turn;
+use crate::structure::role;
+use crate::structure::rule;
+use program::Command;
+use program::Reading;
+use program::read_command;
+ghost use mathlib.Core.Path.{_≡_};
+ghost use Rattle.judge.specs.Token.{roleOf, get};
+ghost use Rattle.judge.specs.Structure.{moveOf, moved, structureOf};
+ghost use Rattle.judge.specs.Flow.{roomOf, endedOf, opensOf, turnOf, hereOf};
+
+// Whether a command here would stand behind an `F` or `R`.
+fn ended(flow: Flow) -> bool
+    ensures { λ r. ⌜ r ≡ endedOf flow ⌝ }
+{
+    match flow {
+        Flow::Ended => true,
+        Flow::Free => false,
+        Flow::Within(_) => false,
+    }
+}
+
+// A good command at a place, held to the rule of loops.
+fn structured(command: Command, place: usize, flow: Flow) -> Turn
+    ensures { λ r. ⌜ r ≡ turnOf (moved place (command .next) (structureOf (roleOf (command .kind)) (roomOf flow) (hereOf place command) (opensOf flow))) ⌝ }
+{
+    let kind = command.kind;
+    let next = command.next;
+    let here = Open {
+        caret: place,
+        behind: next,
+        number: command.number,
+    };
+    let said = rule(flow, role(kind), here);
+    match said {
+        Rule::Broken => Turn::Stop(26, place),
+        Rule::Kept(then) => Turn::Next(next, then),
+    }
+}
+
+// The command at a place, where judging stands so.
+pub fn turn(body: &[u8], place: usize, flow: Flow) -> Turn
+    ensures { λ r. ⌜ r ≡ turnOf (moveOf (get (now (body .entry)) place) (roomOf flow) place (endedOf flow) (opensOf flow)) ⌝ }
+{
+    if ended(flow) {
+        return Turn::Stop(27, place);
+    }
+    let read = read_command(body, place);
+    match read {
+        Reading::Bad(n, at) => Turn::Stop(n, at),
+        Reading::Good(command) => structured(command, place, flow),
+    }
+}

@@ -1,0 +1,55 @@
+// A body judged from the left. Answers to 01: "28 and 21 come first. Then commands from the left; .. An unclosed `L` is judged
+// at the end."
+use crate::Flow;
+use crate::Turn;
+use crate::Verdict;
+use crate::single::turn;
+ghost use mathlib.Core.Path.{_≡_};
+ghost use Rattle.judge.specs.Verdict.{endOf, commandsOf, judgeOf};
+ghost use Rattle.judge.specs.Flow.{endedOf, opensOf};
+
+// The verdict where no command is left.
+fn end(flow: Flow) -> Verdict
+    ensures { λ r. ⌜ r ≡ endOf (endedOf flow) (opensOf flow) ⌝ }
+{
+    match flow {
+        Flow::Free => Verdict::Finite,
+        Flow::Ended => Verdict::Endless,
+        Flow::Within(open) => Verdict::Refused(26, open.caret),
+    }
+}
+
+// The commands of a body, from its first byte to its end.
+fn commands(body: &[u8]) -> Verdict
+    ensures { λ r. ⌜ r ≡ commandsOf (now (body .entry)) ⌝ }
+{
+    let mut place: usize = 0;
+    let mut flow = Flow::Free;
+    while place < body.len() {
+        let said = turn(body, place, flow);
+        match said {
+            Turn::Stop(n, at) => return Verdict::Refused(n, at),
+            Turn::Next(next, then) => {
+                place = next;
+                flow = then;
+            }
+        }
+    }
+    end(flow)
+}
+
+// Whether a body is a program, and endless; or the first refusal in 01's order.
+pub fn judge(body: &[u8]) -> Verdict
+    ensures { λ r. ⌜ r ≡ judgeOf (now (body .entry)) ⌝ }
+{
+    if 84 < body.len() {
+        return Verdict::Refused(28, 84);
+    }
+    if body.len() == 0 {
+        return Verdict::Refused(21, 0);
+    }
+    if body[0] != 0x5E {
+        return Verdict::Refused(21, 0);
+    }
+    commands(body)
+}

@@ -1,0 +1,13 @@
+// Bodies, texts and places tried against 01. Each line of the file stdin says what is tried, and each line of the file stdout,
+// written by hand from 01, what the library must say of it.
+//   lines      a line taken apart: `j` judge, `w` width, `r` read a command, `s` where a place stands; a place of two digits;
+//              then the bytes, one that can't be printed as two hexadecimal digits between < and >
+//   show       the answer in words
+mod lines;
+mod show;
+
+fn main() {
+    let mut buffer = [0u8; 16384];
+    let got = io::read_full(0, &mut buffer);
+    lines::all(&buffer[..got]);
+}

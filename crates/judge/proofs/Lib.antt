@@ -1,3 +1,7 @@
 pub mod Moves
 pub mod Tokens
 pub mod Turns
+pub mod Grammars
+pub mod Refusals
+pub mod Fronts
+pub mod Standings

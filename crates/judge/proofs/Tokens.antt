@@ -7,12 +7,13 @@ use mathlib.Core.List.{List, [], _∷_}
 use native.Mathlib.Omega.{arith}
 use borrow.Author.Tests.{ltb-true, lt-ltb, le-ltb}
 use lib.Dec.{ltb}
-use lib.ListN.{length}
+use lib.ListN.{length, getD}
 use Rattle.basis.specs.Choice.{when}
+use Rattle.program.specs.Bytes.{caret}
 use Rattle.program.specs.Command.{readOf}
 use Rattle.program.specs.declared.Reading.{Reading}
 use Rattle.program.specs.declared.Reading.the-variants.{Good, Bad}
-use Rattle.program.proofs.Laws.{at-least-two, ends-within}
+use Rattle.program.proofs.Laws.{at-least-two, ends-within, starts-with-caret, only-caret}
 use Rattle.judge.specs.Token.{roleOf, Part, Tok, good, bad, sizeOf, partOf, actOf, tokOf, get, chain, tokens, tokensOf}
 use Rattle.judge.proofs.Moves.{next-is}
 
@@ -58,6 +59,26 @@ get-two b p c e = tok-two b p (readOf b p) refl c e .0
 
 pub get-within : (b : List ℕ) (p : ℕ) (c : Part) → get b p ≡ good c → p + sizeOf c ≤ length b
 get-within b p c e = tok-two b p (readOf b p) refl c e .1
+
+tok-caret : (b : List ℕ) (p : ℕ) (r : Reading) → readOf b p ≡ r → (c : Part) → tokOf b p r ≡ good c → getD b p 0 ≡ caret
+tok-caret b p (Good k) e c h = starts-with-caret b p k e
+tok-caret b p (Bad n q) e c h = let z : _≡_ {A = ℕ} 0 1 = cc in absurd (omega arith)
+
+-- and starts with a caret
+pub get-caret : (b : List ℕ) (p : ℕ) (c : Part) → get b p ≡ good c → getD b p 0 ≡ caret
+get-caret b p c e = tok-caret b p (readOf b p) refl c e
+
+tok-only : (b : List ℕ) (p : ℕ) (r : Reading) → readOf b p ≡ r → (c : Part) → tokOf b p r ≡ good c → (q : ℕ) → p < q → q < p + sizeOf c → getD b q 0 ≡ caret → ⊥
+tok-only b p (Good k) e c h q after before =
+    let n = next-is b p k e (roleOf (k .kind)) refl in
+    let s : partOf (roleOf (k .kind)) (actOf b p k) ≡ c = cc in
+    let z = ap sizeOf s in
+    only-caret b p k e q after (omega arith)
+tok-only b p (Bad n r) e c h q after before = let z : _≡_ {A = ℕ} 0 1 = cc in absurd (omega arith)
+
+-- and has no other
+pub get-only : (b : List ℕ) (p : ℕ) (c : Part) → get b p ≡ good c → (q : ℕ) → p < q → q < p + sizeOf c → getD b q 0 ≡ caret → ⊥
+get-only b p c e = tok-only b p (readOf b p) refl c e
 
 pub tokens-first : (b : List ℕ) (p : ℕ) → p < length b → tokensOf b p ≡ chain (get b p) (λ z. tokensOf b (p + z))
 tokens-first b p h = first (get b) (length b) (get-two b) p h

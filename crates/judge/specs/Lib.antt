@@ -3,3 +3,5 @@ pub mod Structure
 pub mod Verdict
 pub mod Flow
 pub mod Standing
+pub mod Grammar
+pub mod Reach

@@ -3,11 +3,15 @@
 -- on decide it.
 use Prim.Native.Nat.{ℕ, zero, suc, _+_, _-_, _≤_, _<_}
 use mathlib.Core.Path.{_≡_, refl, sym, ap, subst, _∙_}
-use mathlib.Core.Bool.{Bool, true, false}
+use mathlib.Core.Bool.{Bool, true, false, not}
 use mathlib.Core.List.{List, [], _∷_}
 use native.Mathlib.Omega.{arith}
+use mathlib.Core.Logic.{dite}
+use native.Mathlib.Decide.{decLt}
+use borrow.Author.Tests.{eqb-true, eqb-false, not-true}
 use lib.Dec.{eqb}
 use lib.ListN.{length, getD, drop, length-drop}
+use lib.Seq.{getD-drop, drop-drop}
 use Rattle.basis.specs.Choice.{when, _and_}
 use Rattle.program.specs.Bytes.{caret, paramOf}
 use Rattle.program.specs.Table.{Line, line, table, begins, rowAt, greatestOf}
@@ -22,8 +26,8 @@ use Rattle.program.specs.declared.Parameter.the-variants.{Right, Wrong}
 use Rattle.program.specs.declared.Command.{Command}
 use Rattle.program.specs.declared.Reading.{Reading}
 use Rattle.program.specs.declared.Reading.the-variants.{Good, Bad}
-use Rattle.program.proofs.Bools.{and-right}
-use Rattle.program.proofs.Rows.{row-plain}
+use Rattle.program.proofs.Bools.{and-left, and-right}
+use Rattle.program.proofs.Rows.{row-plain, row-no-caret}
 use Rattle.program.proofs.Parameters.{Ends, ends}
 
 -- what a good command is made of: its row, and its parameter up to the next caret or the end
@@ -120,3 +124,95 @@ bare-ends b p c m e =
     let z = bare-none p (p + m .letters) (c .number) (c .next) ds r in
     let n = m .next in
     omega arith
+
+-- a command starts with a caret, within the body
+pub starts-within : (b : List ℕ) (p : ℕ) (c : Command) → readOf b p ≡ Good c → p < length b
+starts-within b p c e = let t = at-least-two b p c e in let w = ends-within b p c e in omega arith
+
+pub starts-with-caret : (b : List ℕ) (p : ℕ) (c : Command) → readOf b p ≡ Good c → getD b p 0 ≡ caret
+starts-with-caret b p c e = go (eqb (getD b p 0) caret) refl
+  where
+    go : (t : Bool) → eqb (getD b p 0) caret ≡ t → getD b p 0 ≡ caret
+    go true t = eqb-true (getD b p 0) caret t
+    go false t =
+        let u = row-no-caret b p (starts-within b p c e) (eqb-false (getD b p 0) caret t) in
+        let m = made b p c e .row in
+        let k : Known (c .kind) (made b p c e .form) (made b p c e .letters) ≡ Unknown = sym m ∙ u in
+        let z : _≡_ {A = ℕ} 0 1 = cc in
+        absurd (omega arith)
+
+-- within a parameter no caret stands
+param-plain : (s : List ℕ) (i : ℕ) → i < length (paramOf s) → getD s i 0 ≡ caret → ⊥
+param-plain [] i h e = omega arith
+param-plain (x ∷ s) i h e = go (eqb x caret) refl i h e (param-plain s)
+  where
+    go : (t : Bool) → eqb x caret ≡ t → (i : ℕ) → i < length (when t [] (x ∷ paramOf s)) → getD (x ∷ s) i 0 ≡ caret → ((j : ℕ) → j < length (paramOf s) → getD s j 0 ≡ caret → ⊥) → ⊥
+    go true t i h e rest = omega arith
+    go false t zero h e rest = eqb-false x caret t e
+    go false t (suc i) h e rest = rest i (omega arith) e
+
+-- nor among a command's letters
+begins-same : (ls s : List ℕ) → begins ls s ≡ true → (i : ℕ) → i < length ls → getD s i 0 ≡ getD ls i 0
+begins-same [] s e i h = absurd (omega arith)
+begins-same (l ∷ ls) [] e i h = let z : _≡_ {A = ℕ} 0 1 = cc in absurd (omega arith)
+begins-same (l ∷ ls) (x ∷ s) e zero h = eqb-true x l (and-left (eqb x l) _ e)
+begins-same (l ∷ ls) (x ∷ s) e (suc i) h = begins-same ls s (and-right (eqb x l) _ e) i (omega arith)
+
+no-carets : List ℕ → Bool
+no-carets [] = true
+no-carets (x ∷ xs) = not (eqb x caret) and no-carets xs
+
+no-caret-at : (xs : List ℕ) → no-carets xs ≡ true → (i : ℕ) → i < length xs → getD xs i 0 ≡ caret → ⊥
+unfolding no-carets
+no-caret-at [] e i h k = omega arith
+no-caret-at (x ∷ xs) e zero h k = eqb-false x caret (not-true (eqb x caret) (and-left (not (eqb x caret)) _ e)) k
+no-caret-at (x ∷ xs) e (suc i) h k = no-caret-at xs (and-right (not (eqb x caret)) _ e) i (omega arith) k
+
+letters-plain : List Line → Bool
+letters-plain [] = true
+letters-plain (line [] k f ∷ rows) = false
+letters-plain (line (l ∷ ls) k f ∷ rows) = no-carets ls and letters-plain rows
+
+row-letters : (rows : List Line) → letters-plain rows ≡ true → (s : List ℕ) (k : Kind) (f : Form) (n : ℕ) → rowAt rows s ≡ Known k f n → (i : ℕ) → suc i < n → getD s (suc i) 0 ≡ caret → ⊥
+unfolding letters-plain
+row-letters [] a s k f n e i h d = let z : _≡_ {A = ℕ} 0 1 = cc in omega arith
+row-letters (line [] j g ∷ rows) a s k f n e i h d = let z : _≡_ {A = ℕ} 0 1 = cc in omega arith
+row-letters (line (l ∷ ls) j g ∷ rows) a s k f n e i h d = go (begins (l ∷ ls) s) refl e (row-letters rows (and-right (no-carets ls) _ a) s k f n)
+  where
+    go : (t : Bool) → begins (l ∷ ls) s ≡ t → when t (Known j g (suc (length ls))) (rowAt rows s) ≡ Known k f n → (rowAt rows s ≡ Known k f n → (i : ℕ) → suc i < n → getD s (suc i) 0 ≡ caret → ⊥) → ⊥
+    go true t e′ rest =
+        let y : suc (length ls) ≡ n = cc in
+        let o : suc i < suc (length ls) = omega arith in
+        let same = begins-same (l ∷ ls) s t (suc i) o in
+        no-caret-at ls (and-left (no-carets ls) _ a) i (omega arith) (sym same ∙ d)
+    go false t e′ rest = rest e′ i h d
+
+-- in a command no caret stands but at its front
+pub only-caret : (b : List ℕ) (p : ℕ) (c : Command) → readOf b p ≡ Good c → (q : ℕ) → p < q → q < c .next → getD b q 0 ≡ caret → ⊥
+unfolding letters-plain no-carets
+only-caret b p c e q after before d =
+    let m = made b p c e in
+    let n = m .letters in
+    dite (decLt q (p + n))
+    (λ (h : q < p + n).
+    let i = q - suc p in
+    let o : suc i < n = omega arith in
+    let x : p + suc i ≡ q = omega arith in
+    row-letters table refl (drop p b) (c .kind) (m .form) n (m .row) i o (getD-drop p b (suc i) 0 ∙ ap (λ (k : ℕ). getD b k 0) x ∙ d))
+    (λ h.
+    let i = q - (p + n) in
+    let y = m .next in
+    let o : i < length (paramOf (drop (p + n) b)) = omega arith in
+    let x : p + n + i ≡ q = omega arith in
+    param-plain (drop (p + n) b) i o (getD-drop (p + n) b i 0 ∙ ap (λ (k : ℕ). getD b k 0) x ∙ d))
+
+row-from : (b d : List ℕ) (p : ℕ) → drop p b ≡ drop p d → (r : Row) → rowOf b p r ≡ rowOf d p r
+row-from b d p e Unknown = refl
+row-from b d p e (Known k f n) =
+    ap (λ (s : List ℕ). commandOf k f (p + n) (parameterOf f p (p + n) (paramOf s)))
+    (sym (drop-drop n p b) ∙ ap (drop n) e ∙ drop-drop n p d)
+
+-- only the bytes from a place on decide what is read there
+pub from-here-on : (b d : List ℕ) (p : ℕ) → drop p b ≡ drop p d → readOf b p ≡ readOf d p
+unfolding readOf
+from-here-on b d p e = row-from b d p e (rowAt table (drop p b)) ∙ ap (λ (s : List ℕ). rowOf d p (rowAt table s)) e

@@ -1,0 +1,36 @@
+-- The carets of an accepted body are the fronts of its commands, and nothing else is.
+use Prim.Native.Nat.{ℕ, _+_, _≤_, _<_}
+use mathlib.Core.Path.{_≡_, refl, sym, ap, subst, _∙_}
+use mathlib.Core.List.{List, [], _∷_}
+use mathlib.Core.Logic.{dite}
+use native.Mathlib.Omega.{arith}
+use native.Mathlib.Decide.{decLt, decLe}
+use lib.ListN.{length, getD}
+use Rattle.program.specs.Bytes.{caret}
+use Rattle.judge.specs.Token.{Part, sizeOf}
+use Rattle.judge.specs.Grammar.{Tiled, done, more}
+use Rattle.judge.proofs.Tokens.{get-caret, get-only}
+
+-- q is the front of one of the commands that stand from p on
+pub data Front (q : ℕ) : ℕ → List Part → Type 0 where
+  here : {p : ℕ} {c : Part} {cs : List Part} → p ≡ q → Front q p (c ∷ cs)
+  later : {p : ℕ} {c : Part} {cs : List Part} → Front q (p + sizeOf c) cs → Front q p (c ∷ cs)
+
+-- a front is a caret
+pub front-caret : {b : List ℕ} {p : ℕ} {cs : List Part} (q : ℕ) → Tiled b p cs → Front q p cs → getD b q 0 ≡ caret
+front-caret {b} {p} q (more {c = c} e t) (here h) = ap (λ (k : ℕ). getD b k 0) (sym h) ∙ get-caret b p c e
+front-caret q (more e t) (later f) = front-caret q t f
+
+-- a caret is a front
+pub caret-front : {b : List ℕ} {p : ℕ} {cs : List Part} (q : ℕ) → Tiled b p cs → p ≤ q → q < length b → getD b q 0 ≡ caret → Front q p cs
+caret-front q (done e) h l k = absurd (omega arith)
+caret-front {b} {p} q (more {c = c} {cs = cs} e t) h l k = go (λ x. caret-front q t x l k)
+  where
+    go : (p + sizeOf c ≤ q → Front q (p + sizeOf c) cs) → Front q p (c ∷ cs)
+    go rest =
+        dite (decLe (p + sizeOf c) q)
+        (λ (x : p + sizeOf c ≤ q). later (rest x))
+        (λ x.
+        dite (decLt p q)
+        (λ (y : p < q). absurd (get-only b p c e q y (omega arith) k))
+        (λ y. here (omega arith)))

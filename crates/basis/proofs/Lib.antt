@@ -4,3 +4,5 @@ pub mod Laid
 pub mod Rows
 pub mod Sums
 pub mod Tests
+pub mod Lists
+pub mod Bools

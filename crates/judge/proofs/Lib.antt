@@ -5,3 +5,4 @@ pub mod Grammars
 pub mod Refusals
 pub mod Fronts
 pub mod Standings
+pub mod Values

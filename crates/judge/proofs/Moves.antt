@@ -16,7 +16,7 @@ use Rattle.program.specs.declared.Form.the-variants.{Text, Bare, Number}
 use Rattle.program.specs.declared.Command.{Command}
 use Rattle.program.specs.declared.Reading.{Reading}
 use Rattle.program.specs.declared.Reading.the-variants.{Good, Bad}
-use Rattle.program.proofs.Bools.{and-left, and-right}
+use Rattle.basis.proofs.Bools.{and-left, and-right}
 use Rattle.program.proofs.Rows.{row-holds}
 use Rattle.program.proofs.Laws.{Made, made, at-least-two, bare-ends}
 use Rattle.judge.specs.Token.{roleOf, Act, Part, act, rep, close, forever, again, Tok, good, bad, sizeOf, partOf, actOf, tokOf, get}

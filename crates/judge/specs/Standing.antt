@@ -40,3 +40,14 @@ ofAccepted (Refused n p) s = Nowhere
 -- the place q of the body b
 unfoldable pub standOf : List ℕ → ℕ → Standing
 standOf b q = ofAccepted (judgeOf b) (standAt q (tokensOf b 0) 1 0 false [])
+
+-- a standing in the record's words: the loop place and the loop's number, both 0 outside
+abbrev pub loopPlaceOf : Standing → ℕ
+loopPlaceOf Nowhere = 0
+loopPlaceOf Outside = 0
+loopPlaceOf (Inside behind number) = behind
+
+abbrev pub loopNumberOf : Standing → ℕ
+loopNumberOf Nowhere = 0
+loopNumberOf Outside = 0
+loopNumberOf (Inside behind number) = number

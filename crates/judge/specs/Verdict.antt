@@ -38,3 +38,14 @@ unfoldable pub judgeOf : List ℕ → Verdict
 judgeOf b =
     when (ltb 84 (length b)) (Refused 28 84)
     (when (eqb (getD b 0 0) caret) (commandsOf b) (Refused 21 0))
+
+-- a verdict in 01's words: the number for no, 0 where the body is accepted, and its place
+abbrev pub noOf : Verdict → ℕ
+noOf Finite = 0
+noOf Endless = 0
+noOf (Refused n p) = n
+
+abbrev pub noAt : Verdict → ℕ
+noAt Finite = 0
+noAt Endless = 0
+noAt (Refused n p) = p

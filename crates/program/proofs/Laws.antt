@@ -26,9 +26,15 @@ use Rattle.program.specs.declared.Parameter.the-variants.{Right, Wrong}
 use Rattle.program.specs.declared.Command.{Command}
 use Rattle.program.specs.declared.Reading.{Reading}
 use Rattle.program.specs.declared.Reading.the-variants.{Good, Bad}
-use Rattle.program.proofs.Bools.{and-left, and-right}
+use Rattle.basis.proofs.Bools.{and-left, and-right}
 use Rattle.program.proofs.Rows.{row-plain, row-no-caret}
 use Rattle.program.proofs.Parameters.{Ends, ends}
+
+-- where a command's text stands, by its form: from behind the letters on, and no text at 0
+abbrev pub TextAt : Form → ℕ → Command → Type 0
+TextAt Text at c = (c .text ≡ at) × (c .len ≡ c .next - at)
+TextAt Bare at c = (c .text ≡ 0) × (c .len ≡ 0)
+TextAt (Number lo hi most) at c = (c .text ≡ 0) × (c .len ≡ 0)
 
 -- what a good command is made of: its row, and its parameter up to the next caret or the end
 pub record Made (b : List ℕ) (p : ℕ) (c : Command) : Type 0 where
@@ -37,6 +43,7 @@ pub record Made (b : List ℕ) (p : ℕ) (c : Command) : Type 0 where
   pub row : rowAt table (drop p b) ≡ Known (c .kind) form letters
   pub right : parameterOf form p (p + letters) (paramOf (drop (p + letters) b)) ≡ Right (c .number) (c .next)
   pub next : c .next ≡ p + letters + length (paramOf (drop (p + letters) b))
+  pub text : TextAt form (p + letters) c
 
 kind-in : Kind → Reading → Kind
 kind-in k (Good c) = c .kind
@@ -53,6 +60,26 @@ command-made k Bare at (Right n next) c e = (ap (kind-in k) e, ap (right-in (Rig
 command-made k (Number lo hi most) at (Right n next) c e = (ap (kind-in k) e, ap (right-in (Right n next)) e)
 command-made k f at (Wrong n q) c e = let z : _≡_ {A = ℕ} 0 1 = cc in absurd (omega arith)
 
+text-in : Reading → ℕ
+text-in (Good c) = c .text
+text-in (Bad n q) = 0
+
+len-in : Reading → ℕ
+len-in (Good c) = c .len
+len-in (Bad n q) = 0
+
+next-in : Reading → ℕ
+next-in (Good c) = c .next
+next-in (Bad n q) = 0
+
+command-text : (k : Kind) (f : Form) (at : ℕ) (r : Parameter) (c : Command) → commandOf k f at r ≡ Good c → TextAt f at c
+unfolding text-in len-in next-in
+command-text k Text at (Right n next) c e =
+    (sym (ap text-in e), sym (ap len-in e) ∙ ap (λ (x : ℕ). x - at) (ap next-in e))
+command-text k Bare at (Right n next) c e = (sym (ap text-in e), sym (ap len-in e))
+command-text k (Number lo hi most) at (Right n next) c e = (sym (ap text-in e), sym (ap len-in e))
+command-text k f at (Wrong n q) c e = let z : _≡_ {A = ℕ} 0 1 = cc in absurd (omega arith)
+
 made-by : (b : List ℕ) (p : ℕ) (c : Command) (r : Row) → rowAt table (drop p b) ≡ r → rowOf b p r ≡ Good c → Made b p c
 made-by b p c Unknown e h = let z : _≡_ {A = ℕ} 0 1 = cc in absurd (omega arith)
 made-by b p c (Known k f n) e h =
@@ -64,6 +91,7 @@ made-by b p c (Known k f n) e h =
       row = e ∙ ap (λ (j : Kind). Known j f n) (m .0);
       right = m .1;
       next = subst (Ends (p + n + length ds)) (m .1) (ends f p (p + n) ds);
+      text = command-text k f (p + n) (parameterOf f p (p + n) ds) c h;
     }
 
 -- a good command is made of a row and its parameter

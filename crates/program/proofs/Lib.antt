@@ -1,4 +1,3 @@
-pub mod Bools
 pub mod Places
 pub mod Texts
 pub mod Numbers
@@ -6,3 +5,4 @@ pub mod Widths
 pub mod Rows
 pub mod Parameters
 pub mod Laws
+pub mod Ranges

@@ -12,7 +12,7 @@ use Rattle.program.specs.Bytes.{caret, paramOf}
 use Rattle.program.specs.Number.{digits, valueOf, within, numberOf}
 use Rattle.program.specs.declared.Parameter.{Parameter}
 use Rattle.program.specs.declared.Parameter.the-variants.{Right, Wrong}
-use Rattle.program.proofs.Bools.{and-left, and-right, and-both}
+use Rattle.basis.proofs.Bools.{and-left, and-right, and-both}
 use Rattle.program.proofs.Places.{param-next, param-end}
 
 else-taken : (t : Bool) (r w : Parameter) → (t ≡ true → ⊥) → w ≡ when t r w

@@ -1,44 +1,33 @@
 -- What stands at a place of a body and what follows it: the laws by which the readers' loops go.
-use Prim.Native.Nat.{ℕ, zero, suc, _+_, _≤_, _<_}
+use Prim.Native.Nat.{ℕ, _+_, _≤_, _<_}
 use mathlib.Core.Path.{_≡_, refl, sym, ap, _∙_}
 use mathlib.Core.Bool.{Bool, true, false}
 use mathlib.Core.List.{List, [], _∷_}
 use mathlib.Core.Logic.{dite}
 use native.Mathlib.Omega.{arith}
-use native.Mathlib.Numerals.{add-one}
 use native.Mathlib.Decide.{decLt}
 use borrow.Author.Tests.{eq-eqb, ne-eqb, eqb-true, eqb-false}
 use lib.Dec.{eqb}
 use lib.ListN.{length, getD, drop, List·getD-eq-default, drop-of-length-le}
-use lib.Seq.{drop-cons}
 use Rattle.basis.specs.Choice.{when}
+use Rattle.basis.proofs.Lists.{drop-next}
 use Rattle.program.specs.Bytes.{caret, paramOf, firstOf}
-
--- an element within a list does not depend on what is given behind its end
-pub getD-other : (s : List ℕ) (i d e : ℕ) → i < length s → getD s i d ≡ getD s i e
-getD-other [] i d e h = absurd (omega arith)
-getD-other (x ∷ s) zero d e h = refl
-getD-other (x ∷ s) (suc i) d e h = getD-other s i d e (omega arith)
 
 -- where a byte other than a caret is found, the place lies within the body
 pub within-body : (b : List ℕ) (i : ℕ) → (getD b i caret ≡ caret → ⊥) → i < length b
 within-body b i h = dite (decLt i (length b)) (λ l. l) (λ l. absurd (h (List·getD-eq-default b caret (omega arith))))
-
--- what is left from a place on, by the byte that stands there
-pub drop-next : (b : List ℕ) (i : ℕ) → i < length b → drop i b ≡ getD b i caret ∷ drop (i + 1) b
-drop-next b i h = rw (add-one i, drop-cons b i caret)
 
 param-cons : (x : ℕ) (xs : List ℕ) → (x ≡ caret → ⊥) → paramOf (x ∷ xs) ≡ x ∷ paramOf xs
 param-cons x xs h = ap (λ (t : Bool). when t [] (x ∷ paramOf xs)) (ne-eqb x caret h)
 
 -- the parameter that stands from a place on goes on by the byte there, and ends at a caret and behind the end
 pub param-next : (b : List ℕ) (i : ℕ) → (getD b i caret ≡ caret → ⊥) → paramOf (drop i b) ≡ getD b i caret ∷ paramOf (drop (i + 1) b)
-param-next b i h = ap paramOf (drop-next b i (within-body b i h)) ∙ param-cons (getD b i caret) (drop (i + 1) b) h
+param-next b i h = ap paramOf (drop-next b i caret (within-body b i h)) ∙ param-cons (getD b i caret) (drop (i + 1) b) h
 
 pub param-end : (b : List ℕ) (i : ℕ) → getD b i caret ≡ caret → paramOf (drop i b) ≡ []
 param-end b i h =
     dite (decLt i (length b))
-    (λ (l : i < length b). ap paramOf (drop-next b i l) ∙ ap (λ (t : Bool). when t [] (getD b i caret ∷ paramOf (drop (i + 1) b))) (eq-eqb (getD b i caret) caret h))
+    (λ (l : i < length b). ap paramOf (drop-next b i caret l) ∙ ap (λ (t : Bool). when t [] (getD b i caret ∷ paramOf (drop (i + 1) b))) (eq-eqb (getD b i caret) caret h))
     (λ l. let k : length b ≤ i = omega arith in ap paramOf (drop-of-length-le b k))
 
 pub param-first : (b : List ℕ) (i : ℕ) → firstOf (paramOf (drop i b)) ≡ getD b i caret

@@ -16,8 +16,8 @@ use Rattle.program.specs.declared.Kind.{Kind}
 use Rattle.program.specs.declared.Form.{Form}
 use Rattle.program.specs.declared.Row.{Row}
 use Rattle.program.specs.declared.Row.the-variants.{Known, Unknown}
-use Rattle.program.proofs.Places.{getD-other, drop-next}
-use Rattle.program.proofs.Bools.{and-left, and-right}
+use Rattle.basis.proofs.Lists.{drop-next, getD-other}
+use Rattle.basis.proofs.Bools.{and-left, and-right}
 
 -- a test that every line of the table passes
 abbrev pub holds : (Kind → Form → ℕ → Bool) → List Line → Bool
@@ -84,7 +84,7 @@ no-caret x s h = simp (ne-eqb x caret h)
 -- where no caret stands, no row
 pub row-no-caret : (b : List ℕ) (p : ℕ) → p < length b → (getD b p 0 ≡ caret → ⊥) → rowAt table (drop p b) ≡ Unknown
 row-no-caret b p h n =
-    ap (rowAt table) (drop-next b p h) ∙ no-caret (getD b p caret) (drop (p + 1) b) (λ e. n (getD-other b p 0 caret h ∙ e))
+    ap (rowAt table) (drop-next b p caret h) ∙ no-caret (getD b p caret) (drop (p + 1) b) (λ e. n (getD-other b p 0 caret h ∙ e))
 
 pub row-behind : (b : List ℕ) (p : ℕ) → length b ≤ p → rowAt table (drop p b) ≡ Unknown
 row-behind b p h = ap (rowAt table) (drop-of-length-le b h)

@@ -1,14 +1,13 @@
 -- Laws of a text's width: one byte more, and how wide a byte can be.
-use Prim.Native.Nat.{ℕ, _+_, _≤_, _<_, min}
+use Prim.Native.Nat.{ℕ, _+_, _*_, _≤_, _<_, min}
 use mathlib.Core.Path.{_≡_, refl, sym, ap, _∙_}
 use mathlib.Core.Bool.{Bool, true, false}
 use mathlib.Core.List.{List, [], _∷_}
 use native.Mathlib.Omega.{arith}
 use lib.Dec.{eqb, leb}
-use native.Mathlib.Numerals.{add-one}
 use lib.ListN.{length, getD, drop, drop-of-length-le}
-use lib.Seq.{drop-cons}
 use Rattle.basis.specs.Choice.{when}
+use Rattle.basis.proofs.Lists.{drop-next}
 use Rattle.program.specs.Bytes.{tilde}
 use Rattle.program.specs.Width.{fontColumns, columnsOf, fontOf, widthOf, widest}
 
@@ -30,8 +29,18 @@ columns-most f p x =
 -- one byte more: its columns, and the rest behind it
 pub width-next : (s : List ℕ) (font last i : ℕ) → i < length s → widthOf font last (drop i s) ≡ columnsOf font last (getD s i 0) + widthOf (fontOf font last (getD s i 0)) (getD s i 0) (drop (i + 1) s)
 width-next s font last i h =
-    let e : drop i s ≡ getD s i 0 ∷ drop (i + 1) s = rw (add-one i, drop-cons s i 0) in
-    ap (widthOf font last) e
+    ap (widthOf font last) (drop-next s i 0 h)
 
 pub width-end : (s : List ℕ) (font last i : ℕ) → length s ≤ i → widthOf font last (drop i s) ≡ 0
 width-end s font last i h = ap (widthOf font last) (drop-of-length-le s h)
+
+-- a text of at most 111 bytes does not come to the cap, so its width is the whole
+pub width-most : (s : List ℕ) (font last : ℕ) → widthOf font last s ≤ 9 * length s
+width-most [] font last = omega arith
+width-most (x ∷ s) font last =
+    let c = columns-most font last x in
+    let h = width-most s (fontOf font last x) x in
+    omega arith
+
+pub width-whole : (s : List ℕ) (font last : ℕ) → length s ≤ 111 → min (widthOf font last s) widest ≡ widthOf font last s
+width-whole s font last h = let w = width-most s font last in omega arith

@@ -4,3 +4,4 @@ pub mod Number
 pub mod Table
 pub mod Command
 pub mod Width
+pub mod Answers

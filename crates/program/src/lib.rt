@@ -14,8 +14,6 @@ mod reader;
 mod table;
 mod text;
 
-pub use bytes::byte_kind;
-pub use measure::columns;
 pub use measure::fits;
 pub use measure::start_column;
 pub use measure::width;

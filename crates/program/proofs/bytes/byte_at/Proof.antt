@@ -4,7 +4,7 @@ use borrow.Author.Needs.{needs}
 use lib.ListN.{List·getD-eq-default}
 use mathlib.Core.Path.{sym}
 use Rattle.program.specs.Bytes.{caret}
-use Rattle.program.proofs.Places.{getD-other}
+use Rattle.basis.proofs.Lists.{getD-other}
 use Rattle.program.proofs.bytes.byte_at.Statement.{statement}
 use Rattle.program.proofs.bytes.byte_at.Tie as tie
 

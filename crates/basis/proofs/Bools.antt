@@ -3,7 +3,7 @@ use Prim.Native.Nat.{ℕ}
 use mathlib.Core.Path.{_≡_, refl}
 use mathlib.Core.Bool.{Bool, true, false}
 use native.Mathlib.Omega.{arith}
-use Rattle.basis.specs.Choice.{when, _and_}
+use Rattle.basis.specs.Choice.{_and_}
 
 pub and-left : (a b : Bool) → a and b ≡ true → a ≡ true
 and-left true b e = refl

@@ -6,3 +6,4 @@ pub mod Refusals
 pub mod Fronts
 pub mod Standings
 pub mod Values
+pub mod Examples

@@ -32,7 +32,7 @@ pub record Program (b : List ℕ) (v : Verdict) : Type 0 where
   pub deep : Depth 1 (treeIn b .block)
 
 -- no verdict is yes but that of the commands
-accepting : (b : List ℕ) (v : Verdict) → judgeOf b ≡ v → Yes v → (0 < length b) × ((length b ≤ 84) × (commandsOf b ≡ v))
+pub accepting : (b : List ℕ) (v : Verdict) → judgeOf b ≡ v → Yes v → (0 < length b) × ((length b ≤ 84) × (commandsOf b ≡ v))
 unfolding judgeOf
 accepting b v e y = go (ltb 84 (length b)) refl (eqb (getD b 0 0) caret) refl e
   where

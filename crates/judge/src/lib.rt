@@ -12,6 +12,7 @@ mod structure;
 mod whole;
 
 pub use places::stand;
+pub use structure::role as role_of;
 pub use whole::judge;
 
 // What a command does to the structure of a program: nothing, opens a loop, or one of the three ends.

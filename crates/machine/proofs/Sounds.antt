@@ -1,0 +1,94 @@
+-- Soundness, part by part: which part decides where those before it hold.
+use Prim.Native.Nat.{ℕ, _-_, _≤_, _<_}
+use mathlib.Core.List.{List}
+use mathlib.Core.Bool.{Bool, true, false, not}
+use mathlib.Core.Path.{_≡_, refl, sym, ap, _∙_}
+use native.Mathlib.Omega.{arith}
+use lib.ListN.{length, take, drop, length-drop}
+use lib.Seq.{take-all}
+use lib.Dec.{ltb}
+use borrow.Author.Tests.{ltb-false, not-true}
+use Rattle.basis.proofs.Choices.{and-parts}
+use Rattle.basis.proofs.Tests.{tests}
+use Rattle.program.specs.Command.{readOf}
+use Rattle.program.specs.declared.Reading.the-variants.{Bad}
+use Rattle.judge.specs.Token.{good, bad, tokOf}
+use Rattle.judge.specs.declared.Standing.{Standing}
+use Rattle.judge.specs.declared.Standing.the-variants.{Nowhere}
+use Rattle.judge.proofs.Standings.{At, stands-at}
+use Rattle.judge.specs.Standing.{standOf}
+use Rattle.perform.specs.Settings.{soundOf as settingsSound}
+use Rattle.machine.specs.Sound.{zerosOf, bodyOf, restsOf, heldOf, soundOf}
+use Rattle.machine.specs.declared.Loop.{Loop}
+use Rattle.machine.specs.declared.Run.{Run}
+use Rattle.machine.proofs.Reached.{here}
+
+-- the unused room, as the code lends it
+pub room-is : (b : List ℕ) (n : ℕ) → length b ≡ 84 → drop n b ≡ take (84 - n) (drop n b)
+room-is b n e = sym (take-all (84 - n) (drop n b) (omega (arith, length-drop n b)))
+
+module _ (r : Run) where
+  pub too-long : 84 < r .len → soundOf r ≡ false
+  unfolding soundOf
+  too-long h = search tests
+
+  module _ (fits : r .len ≤ 84) where
+    pub unclean : zerosOf (drop (r .len) (r .body)) ≡ false → soundOf r ≡ false
+    unfolding soundOf
+    unclean z = search (tests, z)
+
+    module _ (clean : zerosOf (drop (r .len) (r .body)) ≡ true) where
+      pub ill-set : settingsSound (r .settings) ≡ false → soundOf r ≡ false
+      unfolding soundOf
+      ill-set s = search (tests, clean, s)
+
+      module _ (set : settingsSound (r .settings) ≡ true) where
+        pub resting : r .len ≡ 0 → soundOf r ≡ restsOf (r .place) (r .inner)
+        unfolding soundOf
+        resting h = search (tests, clean, set)
+
+        pub running : (r .len ≡ 0 → ⊥) → soundOf r ≡ heldOf (standOf (bodyOf r) (r .place)) (r .inner)
+        unfolding soundOf
+        running h = search (tests, clean, set)
+
+-- the parts of a sound run
+pub record Parts (r : Run) : Type 0 where
+  pub fits : r .len ≤ 84
+  pub clean : zerosOf (drop (r .len) (r .body)) ≡ true
+  pub set : settingsSound (r .settings) ≡ true
+  pub rests : r .len ≡ 0 → restsOf (r .place) (r .inner) ≡ true
+  pub held : (r .len ≡ 0 → ⊥) → heldOf (standOf (bodyOf r) (r .place)) (r .inner) ≡ true
+
+pub sound-parts : (r : Run) → soundOf r ≡ true → Parts r
+unfolding soundOf
+sound-parts r e =
+    let a = and-parts (not (ltb 84 (r .len))) _ e in
+    let b = and-parts (zerosOf (drop (r .len) (r .body))) _ (a .1) in
+    let c = and-parts (settingsSound (r .settings)) _ (b .1) in
+    let fits : r .len ≤ 84 = ltb-false 84 (r .len) (not-true (ltb 84 (r .len)) (a .0)) in
+    record {
+      fits = fits;
+      clean = b .0;
+      set = c .0;
+      rests = λ h. sym (resting r fits (b .0) (c .0) h) ∙ e;
+      held = λ h. sym (running r fits (b .0) (c .0) h) ∙ e;
+    }
+
+-- where a place is held it stands somewhere
+somewhere : (s : Standing) (l : Loop) → heldOf s l ≡ true → s ≡ Nowhere → ⊥
+somewhere s l h e = let w : false ≡ true = sym (ap (λ (x : Standing). heldOf x l) e) ∙ h in let z : _≡_ {A = ℕ} 0 1 = cc in omega arith
+
+-- a Busy sound run stands at a command of its accepted body
+pub busy-at : (r : Run) → soundOf r ≡ true → (r .len ≡ 0 → ⊥) → At (bodyOf r) (r .place) (standOf (bodyOf r) (r .place))
+busy-at r e busy =
+    let h = sound-parts r e .held busy in
+    stands-at (bodyOf r) (r .place) (standOf (bodyOf r) (r .place)) refl (somewhere (standOf (bodyOf r) (r .place)) (r .inner) h)
+
+-- so the command there is good
+pub busy-good : (r : Run) → soundOf r ≡ true → (r .len ≡ 0 → ⊥) → (n q : ℕ) → readOf (bodyOf r) (r .place) ≡ Bad n q → ⊥
+busy-good r e busy n q w =
+    let a = busy-at r e busy in
+    let h = here (bodyOf r) (r .place) (standOf (bodyOf r) (r .place)) a in
+    let k : bad n q ≡ good (h .part) = sym (ap (tokOf (bodyOf r) (r .place)) w) ∙ h .there in
+    let z : _≡_ {A = ℕ} 0 1 = cc in
+    omega arith

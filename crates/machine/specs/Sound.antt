@@ -1,0 +1,42 @@
+-- Which runs are sound, one rule for each part.
+-- 01: "pace, scans, threshold in range, brightness 0 or 2 to 31; .. unused room holds zeros; Ready has no body, and places and
+-- count 0; Busy .. has an accepted body and a place at a command, with the loop place behind the enclosing `L` and a count left
+-- from 1 to its number inside a loop (at its closing command too), both 0 outside."
+use Prim.Native.Nat.{ℕ}
+use mathlib.Core.List.{List, [], _∷_}
+use mathlib.Core.Bool.{Bool, true, false, not}
+use lib.Dec.{eqb, ltb, leb}
+use lib.ListN.{take, drop}
+use Rattle.basis.specs.Choice.{when, _and_}
+use Rattle.judge.specs.Standing.{standOf}
+use Rattle.judge.specs.declared.Standing.{Standing}
+use Rattle.judge.specs.declared.Standing.the-variants.{Nowhere, Outside, Inside}
+use Rattle.perform.specs.Settings.{soundOf as settingsSound}
+use Rattle.machine.specs.declared.Loop.{Loop}
+use Rattle.machine.specs.declared.Run.{Run}
+
+-- all are 0
+abbrev pub zerosOf : List ℕ → Bool
+zerosOf [] = true
+zerosOf (x ∷ xs) = eqb x 0 and zerosOf xs
+
+-- the running body
+abbrev pub bodyOf : Run → List ℕ
+bodyOf r = take (r .len) (r .body)
+
+-- Ready has places and count 0
+abbrev pub restsOf : ℕ → Loop → Bool
+restsOf place l = eqb place 0 and eqb (l .place) 0 and eqb (l .left) 0
+
+-- the loop place behind the enclosing `L` and a count left from 1 to its number inside a loop, both 0 outside
+abbrev pub heldOf : Standing → Loop → Bool
+heldOf Nowhere l = false
+heldOf Outside l = eqb (l .place) 0 and eqb (l .left) 0
+heldOf (Inside behind number) l = eqb (l .place) behind and not (ltb (l .left) 1) and leb (l .left) number
+
+unfoldable pub soundOf : Run → Bool
+soundOf r =
+    not (ltb 84 (r .len))
+    and zerosOf (drop (r .len) (r .body))
+    and settingsSound (r .settings)
+    and when (eqb (r .len) 0) (restsOf (r .place) (r .inner)) (heldOf (standOf (bodyOf r) (r .place)) (r .inner))

@@ -1,0 +1,63 @@
+-- One step of a run: the state that its record stands for, the step of that state, and the record of the state behind it.
+-- 01: "A step performs one command and answers ..", "Behind the last command the sign is Ready and holds no body; a step then
+-- answers Idle and zeros", and number 16, "unsound record, before all else".
+use Prim.Native.Nat.{ℕ}
+use mathlib.Core.List.{List, [], _∷_}
+use mathlib.Core.Bool.{Bool, true, false}
+use lib.Dec.{eqb, ltb}
+use lib.ListN.{replicate}
+use Rattle.basis.specs.Choice.{when}
+use Rattle.program.specs.declared.Kind.{Kind}
+use Rattle.perform.specs.Settings.{behindOf}
+use Rattle.perform.specs.declared.settings.Settings.{Settings}
+use Rattle.judge.specs.Token.{get}
+use Rattle.course.specs.Steps.{Frame, frame, State, ready, at, Said, did, idle, nextOf, saidOf}
+use Rattle.machine.specs.Sound.{bodyOf, soundOf}
+use Rattle.machine.specs.declared.Loop.{Loop}
+use Rattle.machine.specs.declared.Run.{Run}
+use Rattle.machine.specs.declared.Answer.{Answer}
+use Rattle.machine.specs.declared.Answer.the-variants.{Did, Idle, Refused}
+use Rattle.machine.specs.declared.Stepped.{Stepped}
+
+-- no loop is open
+abbrev pub outside : Loop
+outside = record { place = 0; left = 0 }
+
+-- the open loops that a record holds: one where a count is left, none otherwise
+abbrev pub framesOf : Loop → List Frame
+framesOf l = when (eqb (l .left) 0) [] (frame (l .place) (l .left) ∷ [])
+
+-- and how a record holds the innermost of them
+abbrev pub loopOf : List Frame → Loop
+loopOf [] = outside
+loopOf (frame p k ∷ fs) = record { place = p; left = k }
+
+-- the state that a run stands for
+abbrev pub stateOf : Run → State
+stateOf r = when (eqb (r .len) 0) (ready (r .settings)) (at (r .place) (framesOf (r .inner)) (r .settings))
+
+-- Ready holds no body, and places and count are 0
+unfoldable pub readyOf : Settings → Run
+readyOf σ = record { body = replicate 84 0; len = 0; place = 0; inner = outside; settings = σ }
+
+-- the run of the same body in another state
+abbrev pub runOf : Run → State → Run
+runOf r (ready σ) = readyOf σ
+runOf r (at p fs σ) = record { body = r .body; len = r .len; place = p; inner = loopOf fs; settings = σ }
+
+abbrev pub sayOf : Said → Answer
+sayOf (did x) = Did x
+sayOf idle = Idle
+
+-- Idle changes nothing; a Busy run goes on by one command
+abbrev pub wentOf : Run → Stepped
+wentOf r =
+    when (eqb (r .len) 0) (record { run = r; answer = Idle })
+    (record {
+      run = runOf r (nextOf (get (bodyOf r)) (r .len) (stateOf r));
+      answer = sayOf (saidOf (get (bodyOf r)) (stateOf r));
+    })
+
+-- 16 for an unsound run, which stays
+unfoldable pub stepOf : Run → Stepped
+stepOf r = when (soundOf r) (wentOf r) (record { run = r; answer = Refused 16 })

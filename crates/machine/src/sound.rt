@@ -1,0 +1,89 @@
+// Which runs are sound. Answers to 01's last paragraph of "Numbers for no": "pace, scans, threshold in range, .. unused room holds
+// zeros; Ready has no body, and places and count 0; Busy .. has an accepted body and a place at a command, with the loop place
+// behind the enclosing `L` and a count left from 1 to its number inside a loop .., both 0 outside."
+use crate::Loop;
+use crate::Run;
+use judge::Standing;
+use judge::stand;
+ghost use mathlib.Core.Path.{_≡_};
+ghost use Rattle.machine.specs.Sound.{zerosOf, restsOf, heldOf, soundOf};
+
+// Whether all bytes are 0.
+fn zeros(bytes: &[u8]) -> bool
+    ensures { λ r. ⌜ r ≡ zerosOf (now (bytes .entry)) ⌝ }
+{
+    let mut i = 0;
+    while i < bytes.len() {
+        if bytes[i] != 0 {
+            return false;
+        }
+        i += 1;
+    }
+    true
+}
+
+// Whether places and count are 0, as in a Ready run.
+fn rests(place: usize, inner: Loop) -> bool
+    ensures { λ r. ⌜ r ≡ restsOf place inner ⌝ }
+{
+    if place != 0 {
+        return false;
+    }
+    if inner.place != 0 {
+        return false;
+    }
+    inner.left == 0
+}
+
+// Whether the open loop is the one that the place stands in.
+fn held(standing: Standing, inner: Loop) -> bool
+    ensures { λ r. ⌜ r ≡ heldOf standing inner ⌝ }
+{
+    let place = inner.place;
+    let left = inner.left;
+    match standing {
+        Standing::Nowhere => false,
+        Standing::Outside => {
+            if place != 0 {
+                return false;
+            }
+            left == 0
+        }
+        Standing::Inside(behind, number) => {
+            if place != behind {
+                return false;
+            }
+            if left < 1 {
+                return false;
+            }
+            left as usize <= number
+        }
+    }
+}
+
+impl Run {
+    // Whether the run is sound.
+    pub fn sound(self) -> bool
+        ensures { λ r. ⌜ r ≡ soundOf self ⌝ }
+    {
+        let body = self.body;
+        let len = self.len;
+        let place = self.place;
+        let inner = self.inner;
+        let settings = self.settings;
+        if 84 < len {
+            return false;
+        }
+        if !zeros(&body[len..]) {
+            return false;
+        }
+        if !settings.sound() {
+            return false;
+        }
+        if len == 0 {
+            return rests(place, inner);
+        }
+        let standing = stand(&body[..len], place);
+        held(standing, inner)
+    }
+}

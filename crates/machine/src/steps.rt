@@ -1,0 +1,186 @@
+// One step of a run. Answers to 01: "`L` sets the count left; `E` with more than 1 left lowers it and goes behind the `L`, else
+// clears loop place and count and goes on. `F` goes behind its `L`, `R` to the first command. Behind the last command the sign is
+// Ready and holds no body; a step then answers Idle and zeros."
+use crate::Answer;
+use crate::Loop;
+use crate::Run;
+use crate::Stepped;
+use judge::Role;
+use judge::role_of;
+use perform::Settings;
+use perform::perform;
+use program::Command;
+use program::Kind;
+use program::Reading;
+use program::read_command;
+use program::width;
+ghost use mathlib.Core.Path.{_≡_};
+ghost use mathlib.Core.List.{[]};
+ghost use mathlib.Core.Bool.{true};
+ghost use Prim.Native.Nat.{_+_, _≤_};
+ghost use lib.ListN.{length, take, drop};
+ghost use Rattle.program.specs.Width.{widthOf};
+ghost use Rattle.program.specs.Command.{readOf};
+ghost use Rattle.program.specs.declared.Reading.the-variants.{Good};
+ghost use Rattle.judge.specs.Token.{roleOf};
+ghost use Rattle.machine.specs.Sound.{soundOf};
+ghost use Rattle.machine.specs.Step.{framesOf, loopOf, readyOf, runOf, wentOf, stepOf};
+ghost use Rattle.machine.specs.Moves.{settledOf, closedOf, returnedOf, movedOf, ranOf};
+
+// The width of a text that lies within the body.
+fn text_width(body: &[u8], text: usize, len: usize) -> usize
+    requires { ⌜ (text + len ≤ length (now body)) × (length (now body) ≤ 84) ⌝ }
+    ensures { λ r. ⌜ r ≡ widthOf 0x44 0 (take len (drop text (now (body .entry)))) ⌝ }
+{
+    let end = text + len;
+    width(&body[text..end])
+}
+
+// No loop is open.
+fn none() -> Loop
+    ensures { λ r. ⌜ r ≡ loopOf [] ⌝ }
+{
+    Loop { place: 0, left: 0 }
+}
+
+// The loop that a record holds, if a count is left.
+fn kept(inner: Loop) -> Loop
+    ensures { λ r. ⌜ r ≡ loopOf (framesOf inner) ⌝ }
+{
+    if inner.left == 0 {
+        return none();
+    }
+    inner
+}
+
+// A run that is Ready with these settings.
+fn ready(settings: Settings) -> Run
+    ensures { λ r. ⌜ r ≡ readyOf settings ⌝ }
+{
+    Run {
+        body: [0; 84],
+        len: 0,
+        place: 0,
+        inner: none(),
+        settings,
+    }
+}
+
+impl Run {
+    // Busy at a place within the body, Ready behind its end.
+    fn settled(self, place: usize, inner: Loop, settings: Settings) -> Run
+        ensures { λ r. ⌜ r ≡ settledOf self place inner settings ⌝ }
+    {
+        if self.len <= place {
+            return ready(settings);
+        }
+        let mut next = self;
+        next.place = place;
+        next.inner = inner;
+        next.settings = settings;
+        next
+    }
+
+    // `E`: back behind the `L` with one less while more than 1 is left, else on.
+    fn closed(self, next: usize) -> Run
+        ensures { λ r. ⌜ r ≡ closedOf self next ⌝ }
+    {
+        let inner = self.inner;
+        let settings = self.settings;
+        if inner.left <= 1 {
+            return self.settled(next, none(), settings);
+        }
+        let place = inner.place;
+        let less = Loop {
+            place,
+            left: inner.left - 1,
+        };
+        self.settled(place, less, settings)
+    }
+
+    // `F`: back behind its `L`, and the count stays.
+    fn returned(self, next: usize) -> Run
+        ensures { λ r. ⌜ r ≡ returnedOf self next ⌝ }
+    {
+        let inner = self.inner;
+        let settings = self.settings;
+        if inner.left == 0 {
+            return self.settled(next, none(), settings);
+        }
+        let place = inner.place;
+        self.settled(place, inner, settings)
+    }
+
+    // The run behind a command of this kind and number that ends before `next`.
+    fn moved(self, kind: Kind, number: u8, next: usize) -> Run
+        ensures { λ r. ⌜ r ≡ movedOf (roleOf kind) kind number self next ⌝ }
+    {
+        let inner = kept(self.inner);
+        let settings = self.settings;
+        let does = role_of(kind);
+        match does {
+            Role::Plain => self.settled(next, inner, settings.behind(kind, number)),
+            Role::Repeat => {
+                let opened = Loop {
+                    place: next,
+                    left: number,
+                };
+                self.settled(next, opened, settings)
+            }
+            Role::Close => self.closed(next),
+            Role::Forever => self.returned(next),
+            Role::Again => self.settled(0, inner, settings),
+        }
+    }
+
+    // A Busy run goes on by the command at its place.
+    fn run(self) -> Stepped
+        requires { ⌜ (soundOf self ≡ true) × (self .len ≡ 0 → ⊥) ⌝ }
+        ensures { λ r. ⌜ r ≡ ranOf self ⌝ }
+    {
+        let body = self.body;
+        let len = self.len;
+        let place = self.place;
+        let settings = self.settings;
+        let live = &body[..len];
+        let read = read_command(live, place);
+        match read {
+            // No sound run stands at such a place.
+            Reading::Bad(_, _) => Stepped {
+                run: self,
+                answer: Answer::Idle,
+            },
+            Reading::Good(command) => {
+                let kind = command.kind;
+                let number = command.number as u8;
+                let text = command.text;
+                let count = command.len;
+                let wide = text_width(live, text, count);
+                let said = perform(kind, number, text, count, wide, settings);
+                Stepped {
+                    run: self.moved(kind, number, command.next),
+                    answer: Answer::Did(said),
+                }
+            }
+        }
+    }
+
+    // One step: the next run with the answer; 16 for an unsound run.
+    pub fn step(self) -> Stepped
+        ensures { λ r. ⌜ r ≡ stepOf self ⌝ }
+    {
+        if !self.sound() {
+            return Stepped {
+                run: self,
+                answer: Answer::Refused(16),
+            };
+        }
+        if self.len == 0 {
+            return Stepped {
+                run: self,
+                answer: Answer::Idle,
+            };
+        }
+        self.run()
+    }
+}

@@ -1,4 +1,6 @@
 pub mod Commands
+pub mod Follows
+pub mod Keeps
 pub mod Moves
 pub mod Ranges
 pub mod Reached

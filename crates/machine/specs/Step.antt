@@ -1,11 +1,12 @@
 -- One step of a run: the state that its record stands for, the step of that state, and the record of the state behind it.
 -- 01: "A step performs one command and answers ..", "Behind the last command the sign is Ready and holds no body; a step then
 -- answers Idle and zeros", and number 16, "unsound record, before all else".
-use Prim.Native.Nat.{ℕ}
+use Prim.Native.Nat.{ℕ, zero, suc}
 use mathlib.Core.List.{List, [], _∷_}
 use mathlib.Core.Bool.{Bool, true, false}
 use lib.Dec.{eqb, ltb}
-use lib.ListN.{replicate}
+use lib.ListN.{length, replicate}
+use Rattle.basis.specs.Bytes.{laid}
 use Rattle.basis.specs.Choice.{when}
 use Rattle.program.specs.declared.Kind.{Kind}
 use Rattle.perform.specs.Settings.{behindOf}
@@ -61,3 +62,16 @@ wentOf r =
 -- 16 for an unsound run, which stays
 unfoldable pub stepOf : Run → Stepped
 stepOf r = when (soundOf r) (wentOf r) (record { run = r; answer = Refused 16 })
+
+-- so many steps: the run behind them, and their answers
+abbrev pub afterRun : ℕ → Run → Run
+afterRun zero r = r
+afterRun (suc k) r = afterRun k (stepOf r .run)
+
+abbrev pub saidRun : ℕ → Run → List Answer
+saidRun zero r = []
+saidRun (suc k) r = stepOf r .answer ∷ saidRun k (stepOf r .run)
+
+-- a body just started: at its first command, with these settings; unused room holds zeros
+unfoldable pub startedOf : List ℕ → Settings → Run
+startedOf b σ = record { body = laid b (replicate 84 0); len = length b; place = 0; inner = outside; settings = σ }

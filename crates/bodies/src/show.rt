@@ -121,7 +121,7 @@ pub fn read(body: &[u8], place: usize) {
     let reading = program::read_command(body, place);
     match reading {
         Reading::Good(c) => command(c),
-        Reading::Bad(n, at) => refused(n, at),
+        Reading::Refused(n, at) => refused(n, at),
     }
     io::write_all(1, b"\n");
 }

@@ -15,7 +15,7 @@ use Rattle.program.specs.declared.Form.{Form}
 use Rattle.program.specs.declared.Form.the-variants.{Text, Bare, Number}
 use Rattle.program.specs.declared.Command.{Command}
 use Rattle.program.specs.declared.Reading.{Reading}
-use Rattle.program.specs.declared.Reading.the-variants.{Good, Bad}
+use Rattle.program.specs.declared.Reading.the-variants.{Good, Refused}
 use Rattle.basis.proofs.Bools.{and-left, and-right}
 use Rattle.program.proofs.Rows.{row-holds}
 use Rattle.program.proofs.Laws.{Made, made, at-least-two, bare-ends}
@@ -121,7 +121,7 @@ module _ (b : List ℕ) (p : ℕ) (c : Command) (e : readOf b p ≡ Good c) wher
       ∙ ap (λ (t : Tok). turnOf (moveOf t (roomOf f) p false (opensOf f))) (ap (tokOf b p) (sym e))
       ∙ ap (λ (t : Bool). turnOf (moveOf (get b p) (roomOf f) p t (opensOf f))) (sym n)
 
-pub turn-bad : (b : List ℕ) (p n q : ℕ) (f : Flow) → endedOf f ≡ false → readOf b p ≡ Bad n q → Stop n q ≡ turnOf (moveOf (get b p) (roomOf f) p (endedOf f) (opensOf f))
+pub turn-bad : (b : List ℕ) (p n q : ℕ) (f : Flow) → endedOf f ≡ false → readOf b p ≡ Refused n q → Stop n q ≡ turnOf (moveOf (get b p) (roomOf f) p (endedOf f) (opensOf f))
 turn-bad b p n q f h e =
     ap (λ (t : Tok). turnOf (moveOf t (roomOf f) p false (opensOf f))) (ap (tokOf b p) (sym e))
     ∙ ap (λ (t : Bool). turnOf (moveOf (get b p) (roomOf f) p t (opensOf f))) (sym h)

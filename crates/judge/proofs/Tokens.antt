@@ -12,7 +12,7 @@ use Rattle.basis.specs.Choice.{when}
 use Rattle.program.specs.Bytes.{caret}
 use Rattle.program.specs.Command.{readOf}
 use Rattle.program.specs.declared.Reading.{Reading}
-use Rattle.program.specs.declared.Reading.the-variants.{Good, Bad}
+use Rattle.program.specs.declared.Reading.the-variants.{Good, Refused}
 use Rattle.program.proofs.Laws.{at-least-two, ends-within, starts-with-caret, only-caret}
 use Rattle.judge.specs.Token.{roleOf, Part, Tok, good, bad, sizeOf, partOf, actOf, tokOf, get, chain, tokens, tokensOf}
 use Rattle.judge.proofs.Moves.{next-is}
@@ -51,7 +51,7 @@ tok-two b p (Good k) e c h =
     let t = at-least-two b p k e in
     let w = ends-within b p k e in
     (omega arith, omega arith)
-tok-two b p (Bad n q) e c h = let z : _≡_ {A = ℕ} 0 1 = cc in absurd (omega arith)
+tok-two b p (Refused n q) e c h = let z : _≡_ {A = ℕ} 0 1 = cc in absurd (omega arith)
 
 -- each command is at least 2 bytes, and ends within the body
 pub get-two : (b : List ℕ) (p : ℕ) (c : Part) → get b p ≡ good c → 2 ≤ sizeOf c
@@ -62,7 +62,7 @@ get-within b p c e = tok-two b p (readOf b p) refl c e .1
 
 tok-caret : (b : List ℕ) (p : ℕ) (r : Reading) → readOf b p ≡ r → (c : Part) → tokOf b p r ≡ good c → getD b p 0 ≡ caret
 tok-caret b p (Good k) e c h = starts-with-caret b p k e
-tok-caret b p (Bad n q) e c h = let z : _≡_ {A = ℕ} 0 1 = cc in absurd (omega arith)
+tok-caret b p (Refused n q) e c h = let z : _≡_ {A = ℕ} 0 1 = cc in absurd (omega arith)
 
 -- and starts with a caret
 pub get-caret : (b : List ℕ) (p : ℕ) (c : Part) → get b p ≡ good c → getD b p 0 ≡ caret
@@ -74,7 +74,7 @@ tok-only b p (Good k) e c h q after before =
     let s : partOf (roleOf (k .kind)) (actOf b p k) ≡ c = cc in
     let z = ap sizeOf s in
     only-caret b p k e q after (omega arith)
-tok-only b p (Bad n r) e c h q after before = let z : _≡_ {A = ℕ} 0 1 = cc in absurd (omega arith)
+tok-only b p (Refused n r) e c h q after before = let z : _≡_ {A = ℕ} 0 1 = cc in absurd (omega arith)
 
 -- and has no other
 pub get-only : (b : List ℕ) (p : ℕ) (c : Part) → get b p ≡ good c → (q : ℕ) → p < q → q < p + sizeOf c → getD b q 0 ≡ caret → ⊥

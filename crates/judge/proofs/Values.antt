@@ -11,7 +11,7 @@ use Rattle.program.specs.declared.Kind.the-variants.{II, IA, IB, S, L, E, F, R,
 use Rattle.program.specs.declared.Form.{Form}
 use Rattle.program.specs.declared.Command.{Command}
 use Rattle.program.specs.declared.Reading.{Reading}
-use Rattle.program.specs.declared.Reading.the-variants.{Good, Bad}
+use Rattle.program.specs.declared.Reading.the-variants.{Good, Refused}
 use Rattle.program.proofs.Rows.{row-plain}
 use Rattle.program.proofs.Laws.{Made, made, at-least-two}
 use Rattle.program.proofs.Ranges.{formOf, InRange, number-in-range, text-within, loop-digits}
@@ -63,7 +63,7 @@ by-reading : (b : List ℕ) (p : ℕ) (r : Reading) → readOf b p ≡ r → (n 
 by-reading b p (Good k) e n z h =
     let q : partOf (roleOf (k .kind)) (actOf b p k) ≡ rep n z = cc in
     by-role b p k e (roleOf (k .kind)) refl n z q
-by-reading b p (Bad n′ q) e n z h = let w : _≡_ {A = ℕ} 0 1 = cc in absurd (omega arith)
+by-reading b p (Refused n′ q) e n z h = let w : _≡_ {A = ℕ} 0 1 = cc in absurd (omega arith)
 
 pub get-loop : (b : List ℕ) (p n z : ℕ) → get b p ≡ good (rep n z) → Loops n z
 get-loop b p n z h = by-reading b p (readOf b p) refl n z h
@@ -74,7 +74,7 @@ pub record Acts (b : List ℕ) (a : Act) : Type 0 where
   pub plain : roleOf (a .kind) ≡ Plain
   pub range : InRange (formOf (a .kind)) (a .number)
   pub within : a .text + a .len ≤ length b
-  pub wide : a .width ≡ widthOf 0x44 0 (take (a .len) (drop (a .text) b))
+  pub wide : a .width ≡ widthOf (take (a .len) (drop (a .text) b))
 
 act-role : (b : List ℕ) (p : ℕ) (k : Command) → readOf b p ≡ Good k → (r : Role) → roleOf (k .kind) ≡ r → (a : Act) → partOf r (actOf b p k) ≡ act a → Acts b a
 act-role b p k e Plain h a q =
@@ -89,7 +89,7 @@ act-reading : (b : List ℕ) (p : ℕ) (r : Reading) → readOf b p ≡ r → (a
 act-reading b p (Good k) e a h =
     let q : partOf (roleOf (k .kind)) (actOf b p k) ≡ act a = cc in
     act-role b p k e (roleOf (k .kind)) refl a q
-act-reading b p (Bad n q) e a h = let w : _≡_ {A = ℕ} 0 1 = cc in absurd (omega arith)
+act-reading b p (Refused n q) e a h = let w : _≡_ {A = ℕ} 0 1 = cc in absurd (omega arith)
 
 pub get-act : (b : List ℕ) (p : ℕ) (a : Act) → get b p ≡ good (act a) → Acts b a
 get-act b p a h = act-reading b p (readOf b p) refl a h

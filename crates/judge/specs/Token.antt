@@ -11,7 +11,7 @@ use Rattle.program.specs.declared.Kind.{Kind}
 use Rattle.program.specs.declared.Kind.the-variants.{II, IA, IB, S, L, E, F, R, XS, XF, P, Scans, W, XD, XB, Y}
 use Rattle.program.specs.declared.Command.{Command}
 use Rattle.program.specs.declared.Reading.{Reading}
-use Rattle.program.specs.declared.Reading.the-variants.{Good, Bad}
+use Rattle.program.specs.declared.Reading.the-variants.{Good, Refused}
 use Rattle.judge.specs.declared.Role.{Role}
 use Rattle.judge.specs.declared.Role.the-variants.{Plain, Repeat, Close, Forever, Again}
 
@@ -80,12 +80,12 @@ actOf b p c =
       number = c .number;
       text = c .text;
       len = c .len;
-      width = widthOf 0x44 0 (take (c .len) (drop (c .text) b));
+      width = widthOf (take (c .len) (drop (c .text) b));
     }
 
 abbrev pub tokOf : List ℕ → ℕ → Reading → Tok
 tokOf b p (Good c) = good (partOf (roleOf (c .kind)) (actOf b p c))
-tokOf b p (Bad n q) = bad n q
+tokOf b p (Refused n q) = bad n q
 
 -- what stands at place p of the body b
 abbrev pub get : List ℕ → ℕ → Tok

@@ -51,7 +51,7 @@ pub fn turn(body: &[u8], place: usize, flow: Flow) -> Turn
     }
     let read = read_command(body, place);
     match read {
-        Reading::Bad(n, at) => Turn::Stop(n, at),
+        Reading::Refused(n, at) => Turn::Stop(n, at),
         Reading::Good(command) => structured(command, place, flow),
     }
 }

@@ -25,7 +25,7 @@ use Rattle.program.specs.declared.Parameter.{Parameter}
 use Rattle.program.specs.declared.Parameter.the-variants.{Right, Wrong}
 use Rattle.program.specs.declared.Command.{Command}
 use Rattle.program.specs.declared.Reading.{Reading}
-use Rattle.program.specs.declared.Reading.the-variants.{Good, Bad}
+use Rattle.program.specs.declared.Reading.the-variants.{Good, Refused}
 use Rattle.basis.proofs.Bools.{and-left, and-right}
 use Rattle.program.proofs.Rows.{row-plain, row-no-caret}
 use Rattle.program.proofs.Parameters.{Ends, ends}
@@ -47,11 +47,11 @@ pub record Made (b : List ℕ) (p : ℕ) (c : Command) : Type 0 where
 
 kind-in : Kind → Reading → Kind
 kind-in k (Good c) = c .kind
-kind-in k (Bad n q) = k
+kind-in k (Refused n q) = k
 
 right-in : Parameter → Reading → Parameter
 right-in r (Good c) = Right (c .number) (c .next)
-right-in r (Bad n q) = r
+right-in r (Refused n q) = r
 
 command-made : (k : Kind) (f : Form) (at : ℕ) (r : Parameter) (c : Command) → commandOf k f at r ≡ Good c → (k ≡ c .kind) × (r ≡ Right (c .number) (c .next))
 unfolding kind-in right-in
@@ -62,15 +62,15 @@ command-made k f at (Wrong n q) c e = let z : _≡_ {A = ℕ} 0 1 = cc in absurd
 
 text-in : Reading → ℕ
 text-in (Good c) = c .text
-text-in (Bad n q) = 0
+text-in (Refused n q) = 0
 
 len-in : Reading → ℕ
 len-in (Good c) = c .len
-len-in (Bad n q) = 0
+len-in (Refused n q) = 0
 
 next-in : Reading → ℕ
 next-in (Good c) = c .next
-next-in (Bad n q) = 0
+next-in (Refused n q) = 0
 
 command-text : (k : Kind) (f : Form) (at : ℕ) (r : Parameter) (c : Command) → commandOf k f at r ≡ Good c → TextAt f at c
 unfolding text-in len-in next-in

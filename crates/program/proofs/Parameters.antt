@@ -13,7 +13,7 @@ use Rattle.program.specs.Number.{digits, valueOf, within, numberOf}
 use Rattle.program.specs.Command.{bareOf, parameterOf, nextOf, commandOf}
 use Rattle.program.specs.declared.Kind.{Kind}
 use Rattle.program.specs.declared.Reading.{Reading}
-use Rattle.program.specs.declared.Reading.the-variants.{Good, Bad}
+use Rattle.program.specs.declared.Reading.the-variants.{Good, Refused}
 use Rattle.program.specs.declared.Form.{Form}
 use Rattle.program.specs.declared.Form.the-variants.{Text, Bare, Number}
 use Rattle.program.specs.declared.Parameter.{Parameter}
@@ -63,7 +63,7 @@ bare-end b f place at x e ex h = by-form f Bare place at _ _ e (sym (ap (bareOf 
 pub bare-more : (b : List ℕ) (f : Form) (place at x : ℕ) → f ≡ Bare → x ≡ getD b at caret → (x ≡ caret → ⊥) → Wrong 24 at ≡ parameterOf f place at (paramOf (drop at b))
 bare-more b f place at x e ex h = by-form f Bare place at _ _ e (sym (ap (bareOf at) (param-next b at (λ k. h (ex ∙ k)))))
 
-pub command-wrong : (k : Kind) (f : Form) (at : ℕ) (r : Parameter) (n q : ℕ) → r ≡ Wrong n q → Bad n q ≡ commandOf k f at r
+pub command-wrong : (k : Kind) (f : Form) (at : ℕ) (r : Parameter) (n q : ℕ) → r ≡ Wrong n q → Refused n q ≡ commandOf k f at r
 command-wrong k f at r n q e = sym (ap (commandOf k f at) e)
 
 pub command-right : (k : Kind) (f g : Form) (at : ℕ) (r : Parameter) (n next : ℕ) → r ≡ Right n next → f ≡ g → commandOf k g at (Right n next) ≡ commandOf k f at r

@@ -23,7 +23,7 @@ use Rattle.program.specs.declared.Parameter.{Parameter}
 use Rattle.program.specs.declared.Parameter.the-variants.{Right, Wrong}
 use Rattle.program.specs.declared.Command.{Command}
 use Rattle.program.specs.declared.Reading.{Reading}
-use Rattle.program.specs.declared.Reading.the-variants.{Good, Bad}
+use Rattle.program.specs.declared.Reading.the-variants.{Good, Refused}
 use Rattle.basis.proofs.Bools.{and-left, and-right}
 use Rattle.program.proofs.Rows.{row-holds}
 use Rattle.program.proofs.Laws.{TextAt, Made, made, ends-within}

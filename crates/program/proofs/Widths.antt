@@ -9,7 +9,7 @@ use lib.ListN.{length, getD, drop, drop-of-length-le}
 use Rattle.basis.specs.Choice.{when}
 use Rattle.basis.proofs.Lists.{drop-next}
 use Rattle.program.specs.Bytes.{tilde}
-use Rattle.program.specs.Width.{fontColumns, columnsOf, fontOf, widthOf, widest}
+use Rattle.program.specs.Width.{fontColumns, columnsOf, fontOf, widthFrom, widest}
 
 pick-most : (t : Bool) (a b n : ℕ) → a ≤ n → b ≤ n → when t a b ≤ n
 pick-most true a b n h k = h
@@ -27,20 +27,20 @@ columns-most f p x =
     (pick-most (eqb f 0x62) _ _ 9 (omega arith) (pick-most (eqb f 0x43) _ _ 9 (omega arith) (omega arith))))))))
 
 -- one byte more: its columns, and the rest behind it
-pub width-next : (s : List ℕ) (font last i : ℕ) → i < length s → widthOf font last (drop i s) ≡ columnsOf font last (getD s i 0) + widthOf (fontOf font last (getD s i 0)) (getD s i 0) (drop (i + 1) s)
+pub width-next : (s : List ℕ) (font last i : ℕ) → i < length s → widthFrom font last (drop i s) ≡ columnsOf font last (getD s i 0) + widthFrom (fontOf font last (getD s i 0)) (getD s i 0) (drop (i + 1) s)
 width-next s font last i h =
-    ap (widthOf font last) (drop-next s i 0 h)
+    ap (widthFrom font last) (drop-next s i 0 h)
 
-pub width-end : (s : List ℕ) (font last i : ℕ) → length s ≤ i → widthOf font last (drop i s) ≡ 0
-width-end s font last i h = ap (widthOf font last) (drop-of-length-le s h)
+pub width-end : (s : List ℕ) (font last i : ℕ) → length s ≤ i → widthFrom font last (drop i s) ≡ 0
+width-end s font last i h = ap (widthFrom font last) (drop-of-length-le s h)
 
 -- a text of at most 111 bytes does not come to the cap, so its width is the whole
-pub width-most : (s : List ℕ) (font last : ℕ) → widthOf font last s ≤ 9 * length s
+pub width-most : (s : List ℕ) (font last : ℕ) → widthFrom font last s ≤ 9 * length s
 width-most [] font last = omega arith
 width-most (x ∷ s) font last =
     let c = columns-most font last x in
     let h = width-most s (fontOf font last x) x in
     omega arith
 
-pub width-whole : (s : List ℕ) (font last : ℕ) → length s ≤ 111 → min (widthOf font last s) widest ≡ widthOf font last s
+pub width-whole : (s : List ℕ) (font last : ℕ) → length s ≤ 111 → min (widthFrom font last s) widest ≡ widthFrom font last s
 width-whole s font last h = let w = width-most s font last in omega arith

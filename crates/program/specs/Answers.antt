@@ -5,7 +5,7 @@ use Rattle.program.specs.declared.Kind.{Kind}
 use Rattle.program.specs.declared.Kind.the-variants.{II, IA, IB, S, L, E, F, R, XS, XF, P, Scans, W, XD, XB, Y}
 use Rattle.program.specs.declared.Command.{Command}
 use Rattle.program.specs.declared.Reading.{Reading}
-use Rattle.program.specs.declared.Reading.the-variants.{Good, Bad}
+use Rattle.program.specs.declared.Reading.the-variants.{Good, Refused}
 
 -- the letters of a command, in ASCII
 abbrev pub lettersOf : Kind → List ℕ
@@ -29,8 +29,8 @@ lettersOf Y = 0x59 ∷ []
 -- the number for no of a reading, and its place
 abbrev pub noOf : Reading → ℕ
 noOf (Good c) = 0
-noOf (Bad n q) = n
+noOf (Refused n q) = n
 
 abbrev pub noAt : Reading → ℕ
 noAt (Good c) = 0
-noAt (Bad n q) = q
+noAt (Refused n q) = q

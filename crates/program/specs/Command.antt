@@ -17,7 +17,7 @@ use Rattle.program.specs.declared.Parameter.{Parameter}
 use Rattle.program.specs.declared.Parameter.the-variants.{Right, Wrong}
 use Rattle.program.specs.declared.Command.{Command}
 use Rattle.program.specs.declared.Reading.{Reading}
-use Rattle.program.specs.declared.Reading.the-variants.{Good, Bad}
+use Rattle.program.specs.declared.Reading.the-variants.{Good, Refused}
 
 -- behind a command without parameter nothing stands; a byte there is 24 at that byte
 abbrev pub bareOf : ℕ → List ℕ → Parameter
@@ -40,11 +40,11 @@ abbrev pub commandOf : Kind → Form → ℕ → Parameter → Reading
 commandOf k Text at (Right n next) = Good (record { kind = k; number = n; text = at; len = next - at; next = next })
 commandOf k Bare at (Right n next) = Good (record { kind = k; number = n; text = 0; len = 0; next = next })
 commandOf k (Number lo hi most) at (Right n next) = Good (record { kind = k; number = n; text = 0; len = 0; next = next })
-commandOf k f at (Wrong n q) = Bad n q
+commandOf k f at (Wrong n q) = Refused n q
 
 -- the command of a row, the caret at a place of the body
 abbrev pub rowOf : List ℕ → ℕ → Row → Reading
-rowOf b p Unknown = Bad 22 p
+rowOf b p Unknown = Refused 22 p
 rowOf b p (Known k f letters) =
     commandOf k f (p + letters) (parameterOf f p (p + letters) (paramOf (drop (p + letters) b)))
 

@@ -22,9 +22,13 @@ abbrev pub fontOf : (font last x : ℕ) → ℕ
 fontOf font last x = when (eqb last tilde) (when (eqb x 0x47) font x) font
 
 -- the width of a text from here on
-abbrev pub widthOf : (font last : ℕ) → List ℕ → ℕ
-widthOf font last [] = 0
-widthOf font last (x ∷ xs) = columnsOf font last x + widthOf (fontOf font last x) x xs
+abbrev pub widthFrom : (font last : ℕ) → List ℕ → ℕ
+widthFrom font last [] = 0
+widthFrom font last (x ∷ xs) = columnsOf font last x + widthFrom (fontOf font last x) x xs
+
+-- the width of a text: it starts in `D`, with nothing before it
+abbrev pub widthOf : List ℕ → ℕ
+widthOf s = widthFrom 0x44 0 s
 
 -- where counting stops: more than any text of a body, which has at most 82 bytes of at most 9 columns
 abbrev pub widest : ℕ

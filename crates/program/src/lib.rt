@@ -78,5 +78,5 @@ pub struct Command {
 // What stands at a place: a good command, or the refusal and its place.
 pub enum Reading {
     Good(Command),
-    Bad(u8, usize),
+    Refused(u8, usize),
 }

@@ -2,6 +2,7 @@
 // most 96 .. A shown text starts at column (96 - width)/2, rounded down."
 ghost use mathlib.Core.Path.{_≡_};
 ghost use Prim.Native.Nat.{_+_, _≤_, min};
+ghost use Rattle.program.specs.Bytes.{tilde};
 ghost use Rattle.program.specs.Width.{fontColumns, columnsOf, fontOf, widthOf, widest, fitsOf, columnOf};
 
 // The columns of a character in a font, which goes by the letter that switches to it.
@@ -42,17 +43,24 @@ pub fn columns(font: u8, last: u8, x: u8) -> usize
     font_columns(font)
 }
 
-// The font behind one byte of a text: a letter behind a tilde switches it, but for `G`.
+// The font that a letter behind a tilde switches to; `G` leaves the font.
+fn switched(font: u8, letter: u8) -> u8
+    ensures { λ r. ⌜ r ≡ fontOf font tilde letter ⌝ }
+{
+    if letter == b'G' {
+        return font;
+    }
+    letter
+}
+
+// The font behind one byte of a text: only a letter behind a tilde switches it.
 fn font_behind(font: u8, last: u8, x: u8) -> u8
     ensures { λ r. ⌜ r ≡ fontOf font last x ⌝ }
 {
-    if last != 0x7E {
-        return font;
+    if last == 0x7E {
+        return switched(font, x);
     }
-    if x == b'G' {
-        return font;
-    }
-    x
+    font
 }
 
 // The sum of two counts of columns, or 1,000 where it is more.
@@ -69,7 +77,7 @@ fn capped(sum: usize, more: usize) -> usize
 
 // The width of a text in columns. It counts to 1,000, which no text of a body comes near.
 pub fn width(text: &[u8]) -> usize
-    ensures { λ r. ⌜ r ≡ min (widthOf 0x44 0 (now (text .entry))) widest ⌝ }
+    ensures { λ r. ⌜ r ≡ min (widthOf (now (text .entry))) widest ⌝ }
 {
     let mut at: usize = 0;
     let mut font = b'D';

@@ -41,7 +41,7 @@ fn command(kind: Kind, form: Form, from: usize, read: Parameter) -> Reading
     ensures { λ r. ⌜ r ≡ commandOf kind form from read ⌝ }
 {
     match read {
-        Parameter::Wrong(n, at) => Reading::Bad(n, at),
+        Parameter::Wrong(n, at) => Reading::Refused(n, at),
         Parameter::Right(number, next) => match form {
             Form::Text => Reading::Good(Command {
                 kind,
@@ -73,16 +73,16 @@ pub fn read_command(body: &[u8], place: usize) -> Reading
     ensures { λ r. ⌜ r ≡ readOf (now (body .entry)) place ⌝ }
 {
     if body.len() <= place {
-        return Reading::Bad(22, place);
+        return Reading::Refused(22, place);
     }
     if body[place] != 0x5E {
-        return Reading::Bad(22, place);
+        return Reading::Refused(22, place);
     }
     let x = byte_at(body, place + 1);
     let y = byte_at(body, place + 2);
     let found = row(x, y);
     match found {
-        Row::Unknown => Reading::Bad(22, place),
+        Row::Unknown => Reading::Refused(22, place),
         Row::Known(kind, form, letters) => {
             let from = place + letters;
             let read = parameter(body, place, from, form);

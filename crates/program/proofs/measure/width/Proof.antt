@@ -5,13 +5,13 @@ use native.Mathlib.Omega.{arith}
 use mathlib.Core.Path.{_≡_, ap}
 use lib.ListN.{length, getD, drop}
 use borrow.Author.Needs.{needs}
-use Rattle.program.specs.Width.{widthOf, widest}
+use Rattle.program.specs.Width.{widthFrom, widthOf, widest}
 use Rattle.program.proofs.Widths.{columns-most, width-next, width-end}
 use Rattle.program.proofs.measure.width.Statement.{statement}
 use Rattle.program.proofs.measure.width.Tie as tie
 
 abbrev Inv-loop : tie.InvT-loop
-Inv-loop text at₀ font₀ last₀ sum₀ at font last sum = (sum ≤ widest) × (min (sum + widthOf font last (drop at text)) widest ≡ min (widthOf 0x44 0 text) widest)
+Inv-loop text at₀ font₀ last₀ sum₀ at font last sum = (sum ≤ widest) × (min (sum + widthFrom font last (drop at text)) widest ≡ min (widthOf text) widest)
 
 abbrev μ-loop : tie.MeasureT-loop
 μ-loop text at₀ font₀ last₀ sum₀ at font last sum = length text - at
@@ -49,7 +49,7 @@ loop-again c =
     let s = k .before .before .before .args .text .now in
     let x = getD s (l .at) 0 in
     let d = width-next s (l .font) (l .last) (l .at) (k .loop-test .taken) in
-    let f = ap (λ (g : ℕ). widthOf g x (drop (l .at + 1) s)) (c .font-behind .ensures) in
+    let f = ap (λ (g : ℕ). widthFrom g x (drop (l .at + 1) s)) (c .font-behind .ensures) in
     let e = c .before .capped .ensures in
     let m = c .before .before .columns .ensures in
     let i = l .inv .1 in

@@ -14,7 +14,7 @@ use lib.ListN.{length, getD, drop, length-drop}
 use lib.Seq.{getD-drop, drop-drop}
 use Rattle.basis.specs.Choice.{when, _and_}
 use Rattle.program.specs.Bytes.{caret, paramOf}
-use Rattle.program.specs.Table.{Line, line, table, begins, rowAt, greatestOf}
+use Rattle.program.specs.Table.{Line, line, table, begins, rowAt}
 use Rattle.program.specs.Command.{parameterOf, commandOf, rowOf, readOf}
 use Rattle.program.specs.declared.Kind.{Kind}
 use Rattle.program.specs.declared.Form.{Form}

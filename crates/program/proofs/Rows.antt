@@ -1,4 +1,4 @@
--- Laws of the table: three bytes decide the row, and each row has two or three letters and numbers of a byte at most.
+-- Laws of the table: three bytes decide the row, and the caret and the letters of each row are two or three bytes.
 use Prim.Native.Nat.{ℕ, zero, suc, _+_, _≤_, _<_}
 use mathlib.Core.Path.{_≡_, refl, sym, ap, _∙_}
 use mathlib.Core.Bool.{Bool, true, false}
@@ -10,7 +10,7 @@ use lib.ListN.{length, getD, drop, length-drop, drop-of-length-le}
 use lib.Seq.{getD-drop}
 use Rattle.basis.specs.Choice.{when, _and_}
 use Rattle.program.specs.Bytes.{caret}
-use Rattle.program.specs.Table.{Line, line, table, begins, rowAt, greatestOf}
+use Rattle.program.specs.Table.{Line, line, table, begins, rowAt}
 use Rattle.program.specs.Command.{rowOf, readOf}
 use Rattle.program.specs.declared.Kind.{Kind}
 use Rattle.program.specs.declared.Form.{Form}
@@ -42,24 +42,21 @@ found-holds t (line ls j g ∷ rows) a s k f n e =
 pub row-holds : (t : Kind → Form → ℕ → Bool) → holds t table ≡ true → (s : List ℕ) (k : Kind) (f : Form) (n : ℕ) → rowAt table s ≡ Known k f n → t k f n ≡ true
 row-holds t a = found-holds t table a
 
--- the caret and the letters are two or three bytes, and a number is a byte at most
+-- the caret and the letters are two or three bytes
 plain : Kind → Form → ℕ → Bool
-plain k f n = leb 2 n and (leb n 3 and leb (greatestOf f) 255)
+plain k f n = leb 2 n and leb n 3
 
-pub record Plainly (f : Form) (n : ℕ) : Type 0 where
+pub record Plainly (n : ℕ) : Type 0 where
   pub least : 2 ≤ n
   pub most : n ≤ 3
-  pub byte : greatestOf f ≤ 255
 
-pub row-plain : (s : List ℕ) (k : Kind) (f : Form) (n : ℕ) → rowAt table s ≡ Known k f n → Plainly f n
+pub row-plain : (s : List ℕ) (k : Kind) (f : Form) (n : ℕ) → rowAt table s ≡ Known k f n → Plainly n
 unfolding plain
 row-plain s k f n h =
     let e = found-holds plain table refl s k f n h in
-    let r = and-right (leb 2 n) _ e in
     record {
       least = leb-true 2 n (and-left (leb 2 n) _ e);
-      most = leb-true n 3 (and-left (leb n 3) _ r);
-      byte = leb-true (greatestOf f) 255 (and-right (leb n 3) _ r);
+      most = leb-true n 3 (and-right (leb 2 n) _ e);
     }
 
 three : (s : List ℕ) → 0 < length s → rowAt table s ≡ rowAt table (getD s 0 caret ∷ getD s 1 caret ∷ getD s 2 caret ∷ [])
@@ -95,5 +92,5 @@ module _ (b : List ℕ) (p x y : ℕ) (found : Row) (h : p < length b) (e : getD
   unfolding readOf
   read-row r t = ap (rowOf b p) (row-at-place b p x y h e ex ey ∙ sym ef ∙ t)
 
-  pub found-row : (k : Kind) (f : Form) (n : ℕ) → found ≡ Known k f n → Plainly f n
+  pub found-row : (k : Kind) (f : Form) (n : ℕ) → found ≡ Known k f n → Plainly n
   found-row k f n t = row-plain (caret ∷ x ∷ y ∷ []) k f n (sym ef ∙ t)

@@ -1,11 +1,11 @@
 -- Laws of a text's bytes: the fault of one byte by its kind, and one byte more of a text.
-use Prim.Native.Nat.{ℕ, _+_, _<_}
+use Prim.Native.Nat.{ℕ, _+_}
 use mathlib.Core.Path.{_≡_, refl, sym, ap, _∙_}
 use mathlib.Core.Bool.{Bool, true, false}
 use mathlib.Core.List.{List, [], _∷_}
 use borrow.Author.Tests.{eq-eqb, ne-eqb}
 use lib.Dec.{eqb}
-use lib.ListN.{length, getD, drop}
+use lib.ListN.{getD, drop}
 use Rattle.basis.specs.Choice.{when}
 use Rattle.program.specs.Bytes.{caret, paramOf, firstOf}
 use Rattle.program.specs.Text.{kindOf, isLetter, mayRun, wrongBy, wrongOf, textOf}
@@ -13,7 +13,7 @@ use Rattle.program.specs.declared.ByteKind.{ByteKind}
 use Rattle.program.specs.declared.ByteKind.the-variants.{Plain, Tilde, Graphic, Forbidden}
 use Rattle.program.specs.declared.Parameter.{Parameter}
 use Rattle.program.specs.declared.Parameter.the-variants.{Right, Wrong}
-use Rattle.program.proofs.Places.{within-body, param-next, param-end, param-first}
+use Rattle.program.proofs.Places.{param-next, param-end, param-first}
 
 module _ (q p x n : ℕ) (k : ByteKind) (e : k ≡ kindOf x) where
   pub wrong-known : (j : ByteKind) → k ≡ j → wrongBy j (mayRun q p) (isLetter n) ≡ wrongOf q p x n
@@ -46,6 +46,3 @@ module _ (b : List ℕ) (q p i x y w : ℕ) (ex : x ≡ getD b i caret) (h : x �
 
   pub text-next : w ≡ 0 → textOf q p i (paramOf (drop i b)) ≡ textOf p x (i + 1) (paramOf (drop (i + 1) b))
   text-next n = text-step ∙ ap (λ (t : Bool). when t (textOf p x (i + 1) (paramOf (drop (i + 1) b))) (Wrong w i)) (eq-eqb w 0 n)
-
-  pub text-within : i < length b
-  text-within = within-body b i (λ k. h (ex ∙ k))

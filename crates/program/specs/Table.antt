@@ -54,9 +54,3 @@ begins (l ∷ ls) (x ∷ xs) = eqb x l and begins ls xs
 abbrev pub rowAt : List Line → List ℕ → Row
 rowAt [] s = Unknown
 rowAt (line ls k f ∷ t) s = when (begins ls s) (Known k f (length ls)) (rowAt t s)
-
--- the greatest number that a form takes; 0 of a text or nothing
-abbrev pub greatestOf : Form → ℕ
-greatestOf Text = 0
-greatestOf Bare = 0
-greatestOf (Number lo hi most) = hi

@@ -51,7 +51,7 @@ pub enum Kind {
 pub enum Form {
     Text,
     Bare,
-    Number(usize, usize, usize),
+    Number(u8, u8, usize),
 }
 
 // The row of the table that a command's letters name, with how many bytes the caret and the letters take.

@@ -3,23 +3,16 @@
 use crate::Parameter;
 use crate::bytes::byte_at;
 ghost use mathlib.Core.Path.{_≡_};
-ghost use Prim.Native.Nat.{_≤_};
 ghost use lib.ListN.{drop};
 ghost use Rattle.program.specs.Bytes.{paramOf};
 ghost use Rattle.program.specs.Number.{numberOf};
 
 // The number from a place on, of 1 to `most` digits and a value from `lo` to `hi`; 23 at the command's place where it is not.
-pub fn read_number(
-    body: &[u8],
-    place: usize,
-    from: usize,
-    lo: usize,
-    hi: usize,
-    most: usize,
-) -> Parameter
-    requires { ⌜ hi ≤ 255 ⌝ }
+pub fn read_number(body: &[u8], place: usize, from: usize, lo: u8, hi: u8, most: usize) -> Parameter
     ensures { λ r. ⌜ r ≡ numberOf lo hi most place from (paramOf (drop from (now (body .entry)))) ⌝ }
 {
+    let least = lo as usize;
+    let greatest = hi as usize;
     let mut at = from;
     let mut value: usize = 0;
     loop {
@@ -28,7 +21,7 @@ pub fn read_number(
             if at == from {
                 return Parameter::Wrong(23, place);
             }
-            if value < lo {
+            if value < least {
                 return Parameter::Wrong(23, place);
             }
             return Parameter::Right(value, at);
@@ -43,7 +36,7 @@ pub fn read_number(
             return Parameter::Wrong(23, place);
         }
         value = value * 10 + (x - b'0') as usize;
-        if hi < value {
+        if greatest < value {
             return Parameter::Wrong(23, place);
         }
         at += 1;

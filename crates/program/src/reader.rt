@@ -14,12 +14,10 @@ ghost use mathlib.Core.Path.{_≡_};
 ghost use Prim.Native.Nat.{_≤_};
 ghost use lib.ListN.{drop};
 ghost use Rattle.program.specs.Bytes.{paramOf};
-ghost use Rattle.program.specs.Table.{greatestOf};
 ghost use Rattle.program.specs.Command.{parameterOf, nextOf, commandOf, readOf};
 
 // What follows the letters of a command, read by its form.
 fn parameter(body: &[u8], place: usize, from: usize, form: Form) -> Parameter
-    requires { ⌜ greatestOf form ≤ 255 ⌝ }
     ensures { λ r. ⌜ r ≡ parameterOf form place from (paramOf (drop from (now (body .entry)))) ⌝ }
 {
     match form {

@@ -12,10 +12,10 @@ use Rattle.program.proofs.number.read_number.Statement.{statement}
 use Rattle.program.proofs.number.read_number.Tie as tie
 
 abbrev Inv-loop : tie.InvT-loop
-Inv-loop body place from lo hi most at₀ value₀ at value = (from ≤ at) × (at ≤ from + most) × (value ≤ hi) × Passed body from at value
+Inv-loop body place from lo hi most least greatest at₀ value₀ at value = (from ≤ at) × (at ≤ from + most) × (value ≤ hi) × Passed body from at value
 
 abbrev μ-loop : tie.MeasureT-loop
-μ-loop body place from lo hi most at₀ value₀ at value = length body - at
+μ-loop body place from lo hi most least greatest at₀ value₀ at value = length body - at
 
 loop-holds : tie.Need-loop-holds Inv-loop μ-loop
 loop-holds c =

@@ -1,7 +1,4 @@
 -- `program::reader::parameter` meets its contract: the form says which reader answers.
-use mathlib.Core.Path.{ap}
-use native.Mathlib.Omega.{arith}
-use Rattle.program.specs.Table.{greatestOf}
 use Rattle.program.specs.declared.Form.the-variants.{Text}
 use Rattle.program.proofs.Parameters.{by-form, bare-end, bare-more}
 use borrow.Author.Needs.{needs}
@@ -30,11 +27,7 @@ enum-known-form : tie.Need-enum-known-form
 enum-known-form c = search needs
 
 read-number-requires : tie.Need-read-number-requires
-read-number-requires c κs =
-    let k = c .before in
-    let e = ap greatestOf (k .form .given .1) in
-    let p = k .before .before .before .pre in
-    omega arith
+read-number-requires c κs = search needs
 
 returns-2 : tie.Need-returns-2
 returns-2 c =

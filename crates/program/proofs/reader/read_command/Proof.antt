@@ -61,12 +61,7 @@ add-from c =
     search needs
 
 parameter-requires : tie.Need-parameter-requires
-parameter-requires c κs =
-    let r = c .before .before .before in
-    let e = r .before .before .before in
-    let k = e .before .before in
-    let a = k .before .before .args in
-    found-row (a .body .now) (a .place) (r .before .before .byte-at .result) (r .before .byte-at2 .result) (r .row .result) (k .if1 .left) (e .if2 .left) (r .before .before .byte-at .ensures) (r .before .byte-at2 .ensures) (r .row .ensures) _ _ _ (c .before .found .given .1) .byte
+parameter-requires c κs = search needs
 
 command-requires : tie.Need-command-requires
 command-requires c κs =

@@ -8,7 +8,7 @@ use borrow.Author.Needs.{needs}
 use Rattle.program.specs.Bytes.{paramOf}
 use Rattle.program.specs.Text.{textOf}
 use Rattle.program.proofs.Places.{within-body}
-use Rattle.program.proofs.Texts.{text-end, text-bad, text-next, text-within}
+use Rattle.program.proofs.Texts.{text-end, text-bad, text-next}
 use Rattle.program.proofs.text.read_text.Statement.{statement}
 use Rattle.program.proofs.text.read_text.Tie as tie
 
@@ -61,30 +61,16 @@ returns-2 c =
 
 add-at : tie.Need-add-at Inv-loop μ-loop
 add-at c =
-    let w = c .before in
-    let e = w .before .before in
+    let e = c .before .before .before in
     let o = e .before in
-    let l = o .before .loop in
-    let h = text-within (o .before .before .before .args .body .now) (l .before) (l .last) (l .at) (o .byte-at .result) (w .before .byte-at2 .result)
-    (w .wrong .result)
-    (o .byte-at .ensures)
-    (e .if1 .left)
-    (w .before .byte-at2 .ensures)
-    (w .wrong .ensures) in
+    let h = within-body (o .before .before .before .args .body .now) (o .before .loop .at) (λ k. e .if1 .left (o .byte-at .ensures ∙ k)) in
     search needs
 
 loop-less : tie.Need-loop-less Inv-loop μ-loop
 loop-less c =
-    let w = c .before in
-    let e = w .before .before in
+    let e = c .before .before .before in
     let o = e .before in
-    let l = o .before .loop in
-    let h = text-within (o .before .before .before .args .body .now) (l .before) (l .last) (l .at) (o .byte-at .result) (w .before .byte-at2 .result)
-    (w .wrong .result)
-    (o .byte-at .ensures)
-    (e .if1 .left)
-    (w .before .byte-at2 .ensures)
-    (w .wrong .ensures) in
+    let h = within-body (o .before .before .before .args .body .now) (o .before .loop .at) (λ k. e .if1 .left (o .byte-at .ensures ∙ k)) in
     omega arith
 
 loop-again : tie.Need-loop-again Inv-loop μ-loop

@@ -34,13 +34,17 @@ roleIn close = Close
 roleIn forever = Forever
 roleIn again = Again
 
--- the loop that an `L` at place p opens
+-- the number of an `L` or of an act; the others have none
+abbrev pub numberIn : Part → ℕ
+numberIn (act a) = a .number
+numberIn (rep n z) = n
+numberIn close = 0
+numberIn forever = 0
+numberIn again = 0
+
+-- the loop that a command at place p would open: the rule looks at it only where the command is an `L`
 abbrev pub opened : ℕ → Part → Open
-opened p (act a) = record { caret = p; behind = p + a .size; number = a .number }
-opened p (rep n z) = record { caret = p; behind = p + z; number = n }
-opened p close = record { caret = p; behind = p + 2; number = 0 }
-opened p forever = record { caret = p; behind = p + 2; number = 0 }
-opened p again = record { caret = p; behind = p + 2; number = 0 }
+opened p c = record { caret = p; behind = p + sizeOf c; number = numberIn c }
 
 -- one command judged: a refusal and its place; or the place behind it, and as above
 pub data Move : Type 0 where

@@ -4,9 +4,13 @@ use crate::Flow;
 use crate::Turn;
 use crate::Verdict;
 use crate::single::turn;
+use program::CARET;
 ghost use mathlib.Core.Path.{_≡_};
 ghost use Rattle.judge.specs.Verdict.{endOf, commandsOf, judgeOf};
 ghost use Rattle.judge.specs.Flow.{endedOf, opensOf};
+
+// The bytes of the longest body.
+const MOST: usize = 84;
 
 // The verdict where no command is left.
 fn end(flow: Flow) -> Verdict
@@ -42,13 +46,13 @@ fn commands(body: &[u8]) -> Verdict
 pub fn judge(body: &[u8]) -> Verdict
     ensures { λ r. ⌜ r ≡ judgeOf (now (body .entry)) ⌝ }
 {
-    if 84 < body.len() {
-        return Verdict::Refused(28, 84);
+    if MOST < body.len() {
+        return Verdict::Refused(28, MOST);
     }
     if body.len() == 0 {
         return Verdict::Refused(21, 0);
     }
-    if body[0] != 0x5E {
+    if body[0] != CARET {
         return Verdict::Refused(21, 0);
     }
     commands(body)

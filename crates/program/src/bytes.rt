@@ -7,30 +7,36 @@ ghost use lib.ListN.{getD};
 ghost use Rattle.program.specs.Bytes.{caret};
 ghost use Rattle.program.specs.Text.{kindOf, isLetter, mayRun, wrongOf};
 
+// The byte that starts a command.
+pub const CARET: u8 = 0x5E;
+
+// The byte that starts a pair in a text.
+pub const TILDE: u8 = 0x7E;
+
 // The byte at a place; behind the end stands a caret, which ends every parameter as the end does.
 pub fn byte_at(body: &[u8], at: usize) -> u8
     ensures { λ r. ⌜ r ≡ getD (now (body .entry)) at caret ⌝ }
 {
     if body.len() <= at {
-        return 0x5E;
+        return CARET;
     }
     body[at]
 }
 
 // What kind of byte it is within a text.
-pub fn byte_kind(x: u8) -> ByteKind
+fn byte_kind(x: u8) -> ByteKind
     ensures { λ r. ⌜ r ≡ kindOf x ⌝ }
 {
     if x < 0x20 {
         return ByteKind::Forbidden;
     }
-    if x == 0x5E {
+    if x == CARET {
         return ByteKind::Forbidden;
     }
-    if x < 0x7E {
+    if x < TILDE {
         return ByteKind::Plain;
     }
-    if x == 0x7E {
+    if x == TILDE {
         return ByteKind::Tilde;
     }
     if x == 0x7F {
@@ -40,7 +46,7 @@ pub fn byte_kind(x: u8) -> ByteKind
 }
 
 // Whether a tilde may stand before this byte.
-pub fn is_letter(x: u8) -> bool
+fn is_letter(x: u8) -> bool
     ensures { λ r. ⌜ r ≡ isLetter x ⌝ }
 {
     if x == b'B' {
@@ -65,13 +71,13 @@ pub fn is_letter(x: u8) -> bool
 }
 
 // Whether a graphic byte may follow the two bytes `before` and `last`.
-pub fn may_run(before: u8, last: u8) -> bool
+fn may_run(before: u8, last: u8) -> bool
     ensures { λ r. ⌜ r ≡ mayRun before last ⌝ }
 {
     if 0x80 <= last {
         return true;
     }
-    if before != 0x7E {
+    if before != TILDE {
         return false;
     }
     last == b'G'

@@ -1,5 +1,5 @@
-// The command language of a body (01, "The program"): one command read at a place, a whole body judged, a text measured.
-// No call has a `requires`: each answers for any bytes and any place.
+// The command language (01, "The program"): one command read at a place of a body, and a text measured. The crate `judge`
+// judges a whole body by it. No call has a `requires`; each answers for any bytes and any place.
 //   bytes      the byte at a place, and what kind a text's byte is      "It holds 20h to 7Dh; a tilde followed by one of .."
 //   text       a text's bytes up to its end                             "Text runs to the next caret or the end"
 //   number     one reader for every number                              "A number runs to the next caret or the end, .."
@@ -14,6 +14,7 @@ mod reader;
 mod table;
 mod text;
 
+pub use bytes::CARET;
 pub use measure::fits;
 pub use measure::start_column;
 pub use measure::width;

@@ -1,9 +1,16 @@
 // A text measured. Answers to 01: "Width: each text starts in `D`. Columns per character: .. A text fits if its width is at
 // most 96 .. A shown text starts at column (96 - width)/2, rounded down."
+use crate::bytes::TILDE;
 ghost use mathlib.Core.Path.{_≡_};
 ghost use Prim.Native.Nat.{_+_, _≤_, min};
 ghost use Rattle.program.specs.Bytes.{tilde};
 ghost use Rattle.program.specs.Width.{fontColumns, columnsOf, fontOf, widthOf, widest, fitsOf, columnOf};
+
+// The columns of the sign.
+const COLUMNS: usize = 96;
+
+// Where counting a width stops.
+const WIDEST: usize = 1000;
 
 // The columns of a character in a font, which goes by the letter that switches to it.
 fn font_columns(font: u8) -> usize
@@ -28,13 +35,13 @@ fn font_columns(font: u8) -> usize
 }
 
 // The columns of one byte of a text, the byte before it being `last`.
-pub fn columns(font: u8, last: u8, x: u8) -> usize
+fn columns(font: u8, last: u8, x: u8) -> usize
     ensures { λ r. ⌜ r ≡ columnsOf font last x ⌝ }
 {
-    if last == 0x7E {
+    if last == TILDE {
         return 0;
     }
-    if x == 0x7E {
+    if x == TILDE {
         return 0;
     }
     if 0x80 <= x {
@@ -57,7 +64,7 @@ fn switched(font: u8, letter: u8) -> u8
 fn font_behind(font: u8, last: u8, x: u8) -> u8
     ensures { λ r. ⌜ r ≡ fontOf font last x ⌝ }
 {
-    if last == 0x7E {
+    if last == TILDE {
         return switched(font, x);
     }
     font
@@ -69,8 +76,8 @@ fn capped(sum: usize, more: usize) -> usize
     ensures { λ r. ⌜ r ≡ min (sum + more) widest ⌝ }
 {
     let all = sum + more;
-    if 1000 < all {
-        return 1000;
+    if WIDEST < all {
+        return WIDEST;
     }
     all
 }
@@ -97,15 +104,15 @@ pub fn width(text: &[u8]) -> usize
 pub fn fits(width: usize) -> bool
     ensures { λ r. ⌜ r ≡ fitsOf width ⌝ }
 {
-    width <= 96
+    width <= COLUMNS
 }
 
 // The column at which a shown text of this width starts; 0 where it doesn't fit.
 pub fn start_column(width: usize) -> usize
     ensures { λ r. ⌜ r ≡ columnOf width ⌝ }
 {
-    if 96 < width {
+    if COLUMNS < width {
         return 0;
     }
-    (96 - width) / 2
+    (COLUMNS - width) / 2
 }

@@ -1,6 +1,7 @@
 // The one reader of numbers. Answers to 01: "A number runs to the next caret or the end, and leading zeros count as digits",
 // and the refusal 23: "anything but a right number between letters and next caret or end".
 use crate::Parameter;
+use crate::bytes::CARET;
 use crate::bytes::byte_at;
 ghost use mathlib.Core.Path.{_≡_};
 ghost use lib.ListN.{drop};
@@ -17,7 +18,7 @@ pub fn read_number(body: &[u8], place: usize, from: usize, lo: u8, hi: u8, most:
     let mut value: usize = 0;
     loop {
         let x = byte_at(body, at);
-        if x == 0x5E {
+        if x == CARET {
             if at == from {
                 return Parameter::Wrong(23, place);
             }

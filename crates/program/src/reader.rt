@@ -6,6 +6,7 @@ use crate::Kind;
 use crate::Parameter;
 use crate::Reading;
 use crate::Row;
+use crate::bytes::CARET;
 use crate::bytes::byte_at;
 use crate::number::read_number;
 use crate::table::row;
@@ -24,7 +25,7 @@ fn parameter(body: &[u8], place: usize, from: usize, form: Form) -> Parameter
         Form::Text => read_text(body, from),
         Form::Bare => {
             let x = byte_at(body, from);
-            if x == 0x5E {
+            if x == CARET {
                 return Parameter::Right(0, from);
             }
             Parameter::Wrong(24, from)
@@ -73,7 +74,7 @@ pub fn read_command(body: &[u8], place: usize) -> Reading
     if body.len() <= place {
         return Reading::Refused(22, place);
     }
-    if body[place] != 0x5E {
+    if body[place] != CARET {
         return Reading::Refused(22, place);
     }
     let x = byte_at(body, place + 1);

@@ -1,5 +1,6 @@
 // A text read to its end. Answers to 01: "Text runs to the next caret or the end", and the refusals 24 and 25.
 use crate::Parameter;
+use crate::bytes::CARET;
 use crate::bytes::byte_at;
 use crate::bytes::wrong;
 ghost use mathlib.Core.Path.{_≡_};
@@ -16,7 +17,7 @@ pub fn read_text(body: &[u8], from: usize) -> Parameter
     let mut last: u8 = 0;
     loop {
         let x = byte_at(body, at);
-        if x == 0x5E {
+        if x == CARET {
             return Parameter::Right(0, at);
         }
         let behind = byte_at(body, at + 1);

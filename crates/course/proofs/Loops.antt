@@ -9,7 +9,7 @@ use Rattle.program.specs.declared.Kind.{Kind}
 use Rattle.program.specs.declared.Kind.the-variants.{II, IA, IB, S, L, E, F, R, XS, XF, P, Scans, W, XD, XB, Y}
 use Rattle.program.specs.declared.Command.{Command}
 use Rattle.program.specs.declared.Reading.{Reading}
-use Rattle.program.specs.declared.Reading.the-variants.{Good, Bad}
+use Rattle.program.specs.declared.Reading.the-variants.{Good, Refused as Bad}
 use Rattle.program.proofs.Rows.{row-plain}
 use Rattle.program.proofs.Laws.{made}
 use Rattle.program.proofs.Ranges.{formOf, InRange, number-in-range, loop-digits}

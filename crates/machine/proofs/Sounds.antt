@@ -11,7 +11,7 @@ use borrow.Author.Tests.{ltb-false, not-true}
 use Rattle.basis.proofs.Choices.{and-parts}
 use Rattle.basis.proofs.Tests.{tests}
 use Rattle.program.specs.Command.{readOf}
-use Rattle.program.specs.declared.Reading.the-variants.{Bad}
+use Rattle.program.specs.declared.Reading.the-variants.{Refused as Bad}
 use Rattle.judge.specs.Token.{good, bad, tokOf}
 use Rattle.judge.specs.declared.Standing.{Standing}
 use Rattle.judge.specs.declared.Standing.the-variants.{Nowhere}

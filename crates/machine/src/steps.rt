@@ -146,7 +146,7 @@ impl Run {
         let read = read_command(live, place);
         match read {
             // No sound run stands at such a place.
-            Reading::Bad(_, _) => Stepped {
+            Reading::Refused(_, _) => Stepped {
                 run: self,
                 answer: Answer::Idle,
             },

@@ -47,29 +47,29 @@ bare-answer k n m t l w σ en et el = cc
 -- `L`, `E`, `F` and `R` answer what their kind says; a text's width is nothing to them
 by-kind : (k : Kind) (b : List ℕ) (p at : ℕ) (c : Command) (σ : Settings) → c .kind ≡ k → InRange (formOf k) (c .number) → TextAt (formOf k) at c
     → saysOf (partOf (roleOf k) (actOf b p c)) σ
-    ≡ answerOf k (c .number) (c .text) (c .len) (widthOf 0x44 0 (take (c .len) (drop (c .text) b))) σ
+    ≡ answerOf k (c .number) (c .text) (c .len) (widthOf (take (c .len) (drop (c .text) b))) σ
 unfolding answerOf
 by-kind L b p at c σ e r t = bare-answer L (c .number) (c .number) (c .text) (c .len) 0 σ refl (t .0) (t .1)
 by-kind E b p at c σ e r t = bare-answer E (c .number) 0 (c .text) (c .len) 0 σ r (t .0) (t .1)
 by-kind F b p at c σ e r t = bare-answer F (c .number) 0 (c .text) (c .len) 0 σ r (t .0) (t .1)
 by-kind R b p at c σ e r t = bare-answer R (c .number) 0 (c .text) (c .len) 0 σ r (t .0) (t .1)
-by-kind II b p at c σ e r t = ap (λ (x : Kind). answerOf x (c .number) (c .text) (c .len) (widthOf 0x44 0 (take (c .len) (drop (c .text) b))) σ) e
-by-kind IA b p at c σ e r t = ap (λ (x : Kind). answerOf x (c .number) (c .text) (c .len) (widthOf 0x44 0 (take (c .len) (drop (c .text) b))) σ) e
-by-kind IB b p at c σ e r t = ap (λ (x : Kind). answerOf x (c .number) (c .text) (c .len) (widthOf 0x44 0 (take (c .len) (drop (c .text) b))) σ) e
-by-kind S b p at c σ e r t = ap (λ (x : Kind). answerOf x (c .number) (c .text) (c .len) (widthOf 0x44 0 (take (c .len) (drop (c .text) b))) σ) e
-by-kind XS b p at c σ e r t = ap (λ (x : Kind). answerOf x (c .number) (c .text) (c .len) (widthOf 0x44 0 (take (c .len) (drop (c .text) b))) σ) e
-by-kind XF b p at c σ e r t = ap (λ (x : Kind). answerOf x (c .number) (c .text) (c .len) (widthOf 0x44 0 (take (c .len) (drop (c .text) b))) σ) e
-by-kind P b p at c σ e r t = ap (λ (x : Kind). answerOf x (c .number) (c .text) (c .len) (widthOf 0x44 0 (take (c .len) (drop (c .text) b))) σ) e
-by-kind Scans b p at c σ e r t = ap (λ (x : Kind). answerOf x (c .number) (c .text) (c .len) (widthOf 0x44 0 (take (c .len) (drop (c .text) b))) σ) e
-by-kind W b p at c σ e r t = ap (λ (x : Kind). answerOf x (c .number) (c .text) (c .len) (widthOf 0x44 0 (take (c .len) (drop (c .text) b))) σ) e
-by-kind XD b p at c σ e r t = ap (λ (x : Kind). answerOf x (c .number) (c .text) (c .len) (widthOf 0x44 0 (take (c .len) (drop (c .text) b))) σ) e
-by-kind XB b p at c σ e r t = ap (λ (x : Kind). answerOf x (c .number) (c .text) (c .len) (widthOf 0x44 0 (take (c .len) (drop (c .text) b))) σ) e
-by-kind Y b p at c σ e r t = ap (λ (x : Kind). answerOf x (c .number) (c .text) (c .len) (widthOf 0x44 0 (take (c .len) (drop (c .text) b))) σ) e
+by-kind II b p at c σ e r t = ap (λ (x : Kind). answerOf x (c .number) (c .text) (c .len) (widthOf (take (c .len) (drop (c .text) b))) σ) e
+by-kind IA b p at c σ e r t = ap (λ (x : Kind). answerOf x (c .number) (c .text) (c .len) (widthOf (take (c .len) (drop (c .text) b))) σ) e
+by-kind IB b p at c σ e r t = ap (λ (x : Kind). answerOf x (c .number) (c .text) (c .len) (widthOf (take (c .len) (drop (c .text) b))) σ) e
+by-kind S b p at c σ e r t = ap (λ (x : Kind). answerOf x (c .number) (c .text) (c .len) (widthOf (take (c .len) (drop (c .text) b))) σ) e
+by-kind XS b p at c σ e r t = ap (λ (x : Kind). answerOf x (c .number) (c .text) (c .len) (widthOf (take (c .len) (drop (c .text) b))) σ) e
+by-kind XF b p at c σ e r t = ap (λ (x : Kind). answerOf x (c .number) (c .text) (c .len) (widthOf (take (c .len) (drop (c .text) b))) σ) e
+by-kind P b p at c σ e r t = ap (λ (x : Kind). answerOf x (c .number) (c .text) (c .len) (widthOf (take (c .len) (drop (c .text) b))) σ) e
+by-kind Scans b p at c σ e r t = ap (λ (x : Kind). answerOf x (c .number) (c .text) (c .len) (widthOf (take (c .len) (drop (c .text) b))) σ) e
+by-kind W b p at c σ e r t = ap (λ (x : Kind). answerOf x (c .number) (c .text) (c .len) (widthOf (take (c .len) (drop (c .text) b))) σ) e
+by-kind XD b p at c σ e r t = ap (λ (x : Kind). answerOf x (c .number) (c .text) (c .len) (widthOf (take (c .len) (drop (c .text) b))) σ) e
+by-kind XB b p at c σ e r t = ap (λ (x : Kind). answerOf x (c .number) (c .text) (c .len) (widthOf (take (c .len) (drop (c .text) b))) σ) e
+by-kind Y b p at c σ e r t = ap (λ (x : Kind). answerOf x (c .number) (c .text) (c .len) (widthOf (take (c .len) (drop (c .text) b))) σ) e
 
 -- a good command answers what its kind, number, text and width say
 pub says-is : (b : List ℕ) (p : ℕ) (c : Command) (σ : Settings) → readOf b p ≡ Good c
     → saysOf (partOf (roleOf (c .kind)) (actOf b p c)) σ
-    ≡ answerOf (c .kind) (c .number) (c .text) (c .len) (widthOf 0x44 0 (take (c .len) (drop (c .text) b))) σ
+    ≡ answerOf (c .kind) (c .number) (c .text) (c .len) (widthOf (take (c .len) (drop (c .text) b))) σ
 says-is b p c σ e =
     let m = made b p c e in
     by-kind (c .kind) b p (p + m .letters) c σ refl (number-in-range b p c e)

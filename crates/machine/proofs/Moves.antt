@@ -92,7 +92,7 @@ moved-by Again b p c r e = settle-is r 0 (framesOf (r .inner)) (r .settings)
 
 -- a Busy run with a good command at its place
 pub ran-good : (r : Run) (c : Command) (w : ℕ) (x : Run) (y : Performed) → readOf (bodyOf r) (r .place) ≡ Good c
-    → w ≡ widthOf 0x44 0 (take (c .len) (drop (c .text) (bodyOf r)))
+    → w ≡ widthOf (take (c .len) (drop (c .text) (bodyOf r)))
     → y ≡ answerOf (c .kind) (c .number) (c .text) (c .len) w (r .settings)
     → x ≡ movedOf (roleOf (c .kind)) (c .kind) (c .number) r (c .next)
     → _≡_ {A = Stepped} (record { run = x; answer = Did y }) (ranOf r)

@@ -30,7 +30,7 @@ ghost use Rattle.machine.specs.Moves.{settledOf, closedOf, returnedOf, m
 // The width of a text that lies within the body.
 fn text_width(body: &[u8], text: usize, len: usize) -> usize
     requires { ⌜ (text + len ≤ length (now body)) × (length (now body) ≤ 84) ⌝ }
-    ensures { λ r. ⌜ r ≡ widthOf 0x44 0 (take len (drop text (now (body .entry)))) ⌝ }
+    ensures { λ r. ⌜ r ≡ widthOf (take len (drop text (now (body .entry)))) ⌝ }
 {
     let end = text + len;
     width(&body[text..end])

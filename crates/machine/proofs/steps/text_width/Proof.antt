@@ -31,7 +31,7 @@ returns c =
     let all : a .text + a .len - a .text ≡ a .len = omega arith in
     let short : length s ≤ 111 = omega (arith, length-take (a .len) (drop (a .text) (a .body .now)), c .before .before .before .pre) in
     c .width .ensures
-    ∙ ap (λ (n : ℕ). min (widthOf 0x44 0 (take n (drop (a .text) (a .body .now)))) widest) all
+    ∙ ap (λ (n : ℕ). min (widthOf (take n (drop (a .text) (a .body .now)))) widest) all
     ∙ width-whole s 0x44 0 short
 
 pub text-width-spec : {M : Type 1} → statement M

@@ -1,0 +1,106 @@
+-- The line runs: demand 3 of runs. A finite program that was started is Ready after exactly as many steps as it has commands
+-- unrolled, and not sooner; its answers are those commands; no step is refused. An endless one is never Ready.
+use Prim.Native.Nat.{ℕ, zero, suc, _+_, _≤_, _<_}
+use mathlib.Core.List.{List, [], _∷_, map}
+use mathlib.Core.Bool.{Bool, true, false}
+use mathlib.Core.Path.{_≡_, refl, sym, ap, _∙_, subst}
+use native.Mathlib.Omega.{arith}
+use lib.ListN.{length}
+use Rattle.perform.specs.Settings.{soundOf as settingsSound}
+use Rattle.perform.specs.declared.settings.Settings.{Settings}
+use Rattle.perform.specs.declared.price.Performed.{Performed}
+use Rattle.judge.specs.Token.{get}
+use Rattle.judge.specs.Verdict.{judgeOf}
+use Rattle.judge.specs.Grammar.{acceptedAs}
+use Rattle.judge.specs.declared.Verdict.the-variants.{Finite, Endless}
+use Rattle.course.specs.Steps.{State, ready, at, Said, did, Busy, settle, started, afterOf, answersOf}
+use Rattle.course.specs.Tree.{unrolled, exitOf}
+use Rattle.course.proofs.Programs.{treeIn, program}
+use Rattle.course.proofs.Runs.{settle-at}
+use Rattle.course.proofs.Theorem.{Ends, finite-ends, endless-never}
+use Rattle.machine.specs.Sound.{bodyOf, soundOf}
+use Rattle.machine.specs.Step.{outside, readyOf, runOf, sayOf, afterRun, saidRun, startedOf}
+use Rattle.machine.specs.declared.Answer.{Answer}
+use Rattle.machine.specs.declared.Answer.the-variants.{Did}
+use Rattle.machine.specs.declared.Run.{Run}
+use Rattle.machine.proofs.Follows.{follows, follows-said, started-body, started-room, started-busy, started-sound}
+use Rattle.machine.proofs.Keeps.{Kept, step-keeps}
+
+-- Busy holds a body
+abbrev pub BusyRun : Run → Type 0
+BusyRun r = r .len ≡ 0 → ⊥
+
+module _ (b : List ℕ) (e : Bool) (accepted : judgeOf b ≡ acceptedAs e) (σ : Settings) (set : settingsSound σ ≡ true) where
+  start-is : 0 < length b → startedOf b σ ≡ runOf (startedOf b σ) (started (length b) σ)
+  unfolding startedOf
+  start-is some = ap (runOf (startedOf b σ)) (sym (settle-at (get b) (length b) 0 [] σ some))
+
+  start-kept : 0 < length b → Kept (startedOf b σ) (started (length b) σ)
+  unfolding startedOf
+  start-kept some =
+      subst (Kept (startedOf b σ)) (sym (settle-at (get b) (length b) 0 [] σ some)) (started-sound b e accepted σ set, refl)
+
+  -- the run after k steps is the record of the state after k steps
+  line-follows : 0 < length b → (k : ℕ) → afterRun k (startedOf b σ) ≡ runOf (startedOf b σ) (afterOf (get b) (length b) k (started (length b) σ))
+  unfolding startedOf
+  line-follows some k =
+      ap (afterRun k) (start-is some)
+      ∙ follows (startedOf b σ) (started-room b e accepted σ set) (started-busy b e accepted σ set) k (started (length b) σ) (start-kept some)
+      ∙ ap (λ (x : List ℕ). runOf (startedOf b σ) (afterOf (get x) (length b) k (started (length b) σ))) (started-body b e accepted σ set)
+
+  line-says : 0 < length b → (k : ℕ) → saidRun k (startedOf b σ) ≡ map sayOf (answersOf (get b) (length b) k (started (length b) σ))
+  unfolding startedOf
+  line-says some k =
+      ap (saidRun k) (start-is some)
+      ∙ follows-said (startedOf b σ) (started-room b e accepted σ set) (started-busy b e accepted σ set) k (started (length b) σ) (start-kept some)
+      ∙ ap (λ (x : List ℕ). map sayOf (answersOf (get x) (length b) k (started (length b) σ))) (started-body b e accepted σ set)
+
+  -- Busy as a state is Busy as a run
+  busy-run : 0 < length b → (s : State) → Busy s → BusyRun (runOf (startedOf b σ) s)
+  unfolding startedOf
+  busy-run some (ready τ) h = absurd h
+  busy-run some (at p fs τ) h = λ w. omega arith
+
+-- performed commands as answers
+abbrev pub dids : List Performed → List Answer
+dids [] = []
+dids (x ∷ xs) = Did x ∷ dids xs
+
+dids-are : (xs : List Performed) → map sayOf (map did xs) ≡ dids xs
+dids-are [] = refl
+dids-are (x ∷ xs) = ap (λ (ys : List Answer). Did x ∷ ys) (dids-are xs)
+
+-- a finite program that was started
+pub record LineEnds (b : List ℕ) (σ : Settings) : Type 0 where
+  pub ready-then : afterRun (length (unrolled (treeIn b .block) σ)) (startedOf b σ) ≡ readyOf (exitOf (treeIn b .block) σ)
+  pub busy-before : (k : ℕ) → k < length (unrolled (treeIn b .block) σ) → BusyRun (afterRun k (startedOf b σ))
+  pub performed : saidRun (length (unrolled (treeIn b .block) σ)) (startedOf b σ) ≡ dids (unrolled (treeIn b .block) σ)
+  pub most : length (unrolled (treeIn b .block) σ) ≤ 3961
+
+pub line-ends : (b : List ℕ) → judgeOf b ≡ Finite → (σ : Settings) → settingsSound σ ≡ true → LineEnds b σ
+line-ends b e σ set =
+    let p = program b Finite e tt in
+    let t = finite-ends b e σ in
+    let xs = unrolled (treeIn b .block) σ in
+    let n = length xs in
+    let r = startedOf b σ in
+    record {
+      ready-then = line-follows b false e σ set (p .some) n ∙ ap (runOf r) (t .ready-then);
+      busy-before = λ k less.
+          subst BusyRun (sym (line-follows b false e σ set (p .some) k))
+          (busy-run b false e σ set (p .some) (afterOf (get b) (length b) k (started (length b) σ)) (t .busy-before k less));
+      performed = line-says b false e σ set (p .some) n ∙ ap (map sayOf) (t .performed) ∙ dids-are xs;
+      most = t .most;
+    }
+
+-- an endless program is never Ready, however many steps it gets
+pub line-never : (b : List ℕ) → judgeOf b ≡ Endless → (σ : Settings) → settingsSound σ ≡ true → (k : ℕ) → BusyRun (afterRun k (startedOf b σ))
+line-never b e σ set k =
+    let p = program b Endless e tt in
+    subst BusyRun (sym (line-follows b true e σ set (p .some) k))
+    (busy-run b true e σ set (p .some) (afterOf (get b) (length b) k (started (length b) σ)) (endless-never b e σ k))
+
+-- and every run on the way is sound
+pub after-sound : (k : ℕ) (r : Run) → length (r .body) ≡ 84 → soundOf r ≡ true → (soundOf (afterRun k r) ≡ true) × (length (afterRun k r .body) ≡ 84)
+after-sound zero r shaped sound = (sound, shaped)
+after-sound (suc k) r shaped sound = let s = step-keeps r shaped sound in after-sound k _ (s .1) (s .0)

@@ -68,13 +68,19 @@ no-ending ends q = refl
 no-ending starts q = let z : _≡_ {A = ℕ} 0 1 = cc in absurd (omega arith)
 no-ending (ever n z t) q = let w : _≡_ {A = ℕ} 0 1 = cc in absurd (omega arith)
 
+-- so its block's commands stand in the body, from its first byte to its end
+pub finite-stands : (b : List ℕ) → judgeOf b ≡ Finite → At (get b) (length b) 0 (flat (treeIn b .block) [])
+finite-stands b e =
+    let p = program b Finite e tt in
+    subst (λ (x : Ending). At (get b) (length b) 0 (flat (treeIn b .block) (flatEnd x))) (no-ending (treeIn b .ending) (p .verdict)) (p .stands)
+
 pub finite-ends : (b : List ℕ) → judgeOf b ≡ Finite → (σ : Settings) → Ends b (treeIn b .block) σ
 finite-ends b e σ =
     let p = program b Finite e tt in
     let t = treeIn b .block in
     let g = get b in
     let len = length b in
-    let here : At g len 0 (flat t []) = subst (λ (x : Ending). At g len 0 (flat t (flatEnd x))) (no-ending (treeIn b .ending) (p .verdict)) (p .stands) in
+    let here : At g len 0 (flat t []) = finite-stands b e in
     let r = block-runs g len (loops-count b) t [] 0 [] σ here in
     let behind = at-past g len t [] 0 here in
     let c = counted b t [] 0 here in

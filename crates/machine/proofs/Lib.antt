@@ -5,5 +5,8 @@ pub mod Lines
 pub mod Moves
 pub mod Ranges
 pub mod Reached
+pub mod Reckons
 pub mod Sounds
+pub mod Sums
+pub mod Wholes
 pub mod Zeros

@@ -1,3 +1,5 @@
 pub mod Moves
+pub mod Reckon
 pub mod Sound
 pub mod Step
+pub mod Totals

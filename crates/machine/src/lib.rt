@@ -2,11 +2,14 @@
 //   sound    which runs are sound                                  "Ready has no body .. Busy .. has an accepted body and a place
 //            at a command, .."
 //   steps    one step: a command performed and the next run        "A step performs one command and answers .."
+mod reckon;
 mod sound;
 mod steps;
+mod totals;
 
 use perform::Performed;
 use perform::Settings;
+pub use totals::Totals;
 
 // The open loop: the place behind its `L` and the count left, both 0 outside loops.
 pub struct Loop {

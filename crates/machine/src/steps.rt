@@ -28,7 +28,7 @@ ghost use Rattle.machine.specs.Step.{framesOf, loopOf, readyOf, runOf, w
 ghost use Rattle.machine.specs.Moves.{settledOf, closedOf, returnedOf, movedOf, ranOf};
 
 // The width of a text that lies within the body.
-fn text_width(body: &[u8], text: usize, len: usize) -> usize
+pub(crate) fn text_width(body: &[u8], text: usize, len: usize) -> usize
     requires { ⌜ (text + len ≤ length (now body)) × (length (now body) ≤ 84) ⌝ }
     ensures { λ r. ⌜ r ≡ widthOf (take len (drop text (now (body .entry)))) ⌝ }
 {

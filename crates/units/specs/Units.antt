@@ -11,6 +11,10 @@ capped n = min n limit
 abbrev pub sumOf : ℕ → ℕ → ℕ
 sumOf a b = capped (a + b)
 
+-- some times over
+abbrev pub timesOf : ℕ → ℕ → ℕ
+timesOf a n = capped (a * n)
+
 -- shifts of k scans each
 abbrev pub scansOf : ℕ → ℕ → ℕ
 scansOf shifts each = capped (shifts * each)

@@ -1,20 +1,38 @@
-// Shifts, scans and milliseconds ("counted apart and never added to each other"): one tuple struct a unit, with its own
+// Steps, shifts, scans and milliseconds ("counted apart and never added to each other"): one tuple struct a unit, with its own
 // sum and its own conversion to the next. A sum or a product past 64 bits stays at the greatest number.
 //   capped   the sum and the product that stay at the greatest number
 ghost use mathlib.Core.Path.{_≡_};
 ghost use Prim.Native.Nat.{_*_};
-ghost use Rattle.units.specs.Units.{sumOf, scansOf, millisOf};
+ghost use Rattle.units.specs.Units.{sumOf, timesOf, scansOf, millisOf};
 
 mod capped;
 
 use capped::capped_product;
 use capped::capped_sum;
 
+pub struct Steps(pub u64);
+
 pub struct Shifts(pub u64);
 
 pub struct Scans(pub u64);
 
 pub struct Millis(pub u64);
+
+impl Steps {
+    // These steps and those.
+    pub fn add(self, more: Steps) -> Steps
+        ensures { λ r. ⌜ r .0 ≡ sumOf (self .0) (more .0) ⌝ }
+    {
+        Steps(capped_sum(self.0, more.0))
+    }
+
+    // These steps, some times over.
+    pub fn times(self, n: u8) -> Steps
+        ensures { λ r. ⌜ r .0 ≡ timesOf (self .0) n ⌝ }
+    {
+        Steps(capped_product(self.0, n as u64))
+    }
+}
 
 impl Shifts {
     // These shifts and those.
@@ -38,6 +56,13 @@ impl Scans {
         ensures { λ r. ⌜ r .0 ≡ sumOf (self .0) (more .0) ⌝ }
     {
         Scans(capped_sum(self.0, more.0))
+    }
+
+    // These scans, some times over.
+    pub fn times(self, n: u8) -> Scans
+        ensures { λ r. ⌜ r .0 ≡ timesOf (self .0) n ⌝ }
+    {
+        Scans(capped_product(self.0, n as u64))
     }
 
     // The milliseconds of these scans at a pace, rounded up.
@@ -65,5 +90,12 @@ impl Millis {
         ensures { λ r. ⌜ r .0 ≡ sumOf (self .0) (more .0) ⌝ }
     {
         Millis(capped_sum(self.0, more.0))
+    }
+
+    // These milliseconds, some times over.
+    pub fn times(self, n: u8) -> Millis
+        ensures { λ r. ⌜ r .0 ≡ timesOf (self .0) n ⌝ }
+    {
+        Millis(capped_product(self.0, n as u64))
     }
 }

@@ -1,5 +1,6 @@
 pub mod Commands
 pub mod Follows
+pub mod Forecasts
 pub mod Keeps
 pub mod Lines
 pub mod Moves

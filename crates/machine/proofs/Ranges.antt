@@ -49,7 +49,7 @@ ranged σ e =
     }
 
 -- and together they are sound
-sounds : (pace scans : ℕ) (sink : Bool) (dim bright : ℕ) → 1 ≤ pace → pace ≤ 20 → 1 ≤ scans → scans ≤ 6 → 1 ≤ dim → (bright ≡ 1 → ⊥) → bright ≤ 31
+pub sounds : (pace scans : ℕ) (sink : Bool) (dim bright : ℕ) → 1 ≤ pace → pace ≤ 20 → 1 ≤ scans → scans ≤ 6 → 1 ≤ dim → (bright ≡ 1 → ⊥) → bright ≤ 31
     → soundOf (record { pace = pace; scans = scans; sink = sink; dim = dim; bright = bright }) ≡ true
 unfolding soundOf
 sounds pace scans sink dim bright h1 h2 h3 h4 h5 h6 h7 =

@@ -1,3 +1,4 @@
+pub mod Forecast
 pub mod Moves
 pub mod Reckon
 pub mod Sound

@@ -9,6 +9,8 @@ mod totals;
 
 use perform::Performed;
 use perform::Settings;
+pub use reckon::Foretold;
+pub use reckon::forecast;
 pub use totals::Totals;
 
 // The open loop: the place behind its `L` and the count left, both 0 outside loops.

@@ -22,6 +22,7 @@ ghost use Rattle.judge.specs.Verdict.{judgeOf};
 ghost use Rattle.judge.specs.declared.Verdict.the-variants.{Finite};
 ghost use Rattle.judge.specs.declared.Role.the-variants.{Repeat};
 ghost use Rattle.judge.specs.Token.{roleOf};
+ghost use Rattle.machine.specs.Forecast.{forecastOf, pricedOf};
 ghost use Rattle.machine.specs.Reckon.{addedOf, plainOf, strideOf, passOf, loopedOf, turnOf};
 
 // How far a program is reckoned: the place, the settings there, and the totals so far.
@@ -145,6 +146,77 @@ fn turn(body: &[u8], at: Reckoned) -> Reckoned
                 Role::Forever => past,
                 Role::Again => past,
             }
+        }
+    }
+}
+
+// What a program that ends costs, and the settings behind it.
+pub struct Priced {
+    pub totals: Totals,
+    pub settings: Settings,
+}
+
+// All commands of a program that comes to an end.
+fn reckon(body: &[u8], settings: Settings) -> Priced
+    requires { ⌜ judgeOf (now body) ≡ Finite ⌝ }
+    ensures { λ r. ⌜ r ≡ pricedOf (now (body .entry)) settings ⌝ }
+{
+    let mut at = Reckoned {
+        place: 0,
+        settings,
+        totals: Totals::none(),
+    };
+    let mut place: usize = 0;
+    while place < body.len() {
+        at = turn(body, at);
+        place = at.place;
+    }
+    let totals = at.totals;
+    let last = at.settings;
+    Priced {
+        totals,
+        settings: last,
+    }
+}
+
+// What is told of a program beforehand: the totals until it is Ready, that it never is, or the refusal and its place.
+pub enum Foretold {
+    Ends(Totals),
+    Endless,
+    Refused(u8, usize),
+}
+
+// How long a body will run when it is started at this pace and this many scans a shift.
+pub fn forecast(body: &[u8], pace: u8, scans: u8) -> Foretold
+    ensures { λ r. ⌜ r ≡ forecastOf (now (body .entry)) pace scans ⌝ }
+{
+    if pace < 1 {
+        return Foretold::Refused(17, 0);
+    }
+    if 20 < pace {
+        return Foretold::Refused(17, 0);
+    }
+    if scans < 1 {
+        return Foretold::Refused(17, 0);
+    }
+    if 6 < scans {
+        return Foretold::Refused(17, 0);
+    }
+    let verdict = judge(body);
+    match verdict {
+        Verdict::Refused(n, place) => Foretold::Refused(n, place),
+        Verdict::Endless => Foretold::Endless,
+        Verdict::Finite => {
+            let settings = Settings {
+                pace,
+                scans,
+                sink: false,
+                dim: 16,
+                bright: 0,
+            };
+            let priced = reckon(body, settings);
+            let totals = priced.totals;
+            Foretold::Ends(totals)
         }
     }
 }

@@ -1,15 +1,18 @@
 -- The carets of an accepted body are the fronts of its commands, and nothing else is.
 use Prim.Native.Nat.{ℕ, _+_, _≤_, _<_}
 use mathlib.Core.Path.{_≡_, refl, sym, ap, subst, _∙_}
+use mathlib.Core.Bool.{Bool}
 use mathlib.Core.List.{List, [], _∷_}
-use mathlib.Core.Logic.{dite}
+use mathlib.Core.Logic.{dite, _↔_}
 use native.Mathlib.Omega.{arith}
 use native.Mathlib.Decide.{decLt, decLe}
 use lib.ListN.{length, getD}
 use Rattle.program.specs.Bytes.{caret}
 use Rattle.judge.specs.Token.{Part, sizeOf}
-use Rattle.judge.specs.Grammar.{Tiled, done, more}
+use Rattle.judge.specs.Verdict.{judgeOf}
+use Rattle.judge.specs.Grammar.{Tiled, done, more, Described, acceptedAs}
 use Rattle.judge.proofs.Tokens.{get-caret, get-only}
+use Rattle.judge.proofs.Grammars.{accepted-described}
 
 -- q is the front of one of the commands that stand from p on
 pub data Front (q : ℕ) : ℕ → List Part → Type 0 where
@@ -34,3 +37,18 @@ caret-front {b} {p} q (more {c = c} {cs = cs} e t) h l k = go (λ x. caret-front
         dite (decLt p q)
         (λ (y : p < q). absurd (get-only b p c e q y (omega arith) k))
         (λ y. here (omega arith)))
+
+-- an accepted body is exactly tiled by its commands, and its carets are their fronts
+pub record Fronted (b : List ℕ) : Type 0 where
+  pub commands : List Part
+  pub tiled : Tiled b 0 commands
+  pub fronts : (q : ℕ) → q < length b → (getD b q 0 ≡ caret) ↔ Front q 0 commands
+
+pub accepted-fronted : (b : List ℕ) (e : Bool) → judgeOf b ≡ acceptedAs e → Fronted b
+accepted-fronted b e h =
+    let d = accepted-described b e h in
+    record {
+      commands = d .commands;
+      tiled = d .tiled;
+      fronts = λ q l. (λ k. caret-front q (d .tiled) (omega arith) l k, λ f. front-caret q (d .tiled) f);
+    }

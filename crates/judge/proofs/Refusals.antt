@@ -126,3 +126,11 @@ first-refused b n q (unclosed {p = p} {m = m} {e = e} {l = l} {o = o} s r h) =
     begun-judged b s
     ∙ reach-judge r
     ∙ ap (λ (ts : List Tok). judge ts m p e (l ∷ o)) (tokens-none b p h)
+
+-- so a body has one refusal at most, and an accepted one has none
+pub one-refusal : (b : List ℕ) (n q k r : ℕ) → Refusal b n q → Refusal b k r → (n ≡ k) × (q ≡ r)
+one-refusal b n q k r x y =
+    let e : Refused n q ≡ Refused k r = sym (first-refused b n q x) ∙ first-refused b k r y in
+    let i : n ≡ k = cc in
+    let j : q ≡ r = cc in
+    (i, j)

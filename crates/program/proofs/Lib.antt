@@ -6,3 +6,4 @@ pub mod Rows
 pub mod Parameters
 pub mod Laws
 pub mod Ranges
+pub mod Faults

@@ -5,6 +5,7 @@ use Prim.Native.Nat.{ℕ, _+_}
 use mathlib.Core.List.{List, [], _∷_}
 use mathlib.Core.Bool.{Bool, true, false}
 use lib.Dec.{eqb, ltb, leb}
+use lib.ListN.{getD}
 use Rattle.basis.specs.Choice.{when, _and_, _or_}
 use Rattle.program.specs.Bytes.{caret, tilde, firstOf}
 use Rattle.program.specs.declared.ByteKind.{ByteKind}
@@ -47,3 +48,7 @@ textOf before last at (x ∷ xs) =
     when (eqb (wrongOf before last x (firstOf xs)) 0)
     (textOf last x (at + 1) xs)
     (Wrong (wrongOf before last x (firstOf xs)) at)
+
+-- what is wrong with the byte at place i of a text, nothing standing in front of the first
+abbrev pub wrongAt : List ℕ → ℕ → ℕ
+wrongAt ds i = wrongOf (getD (0 ∷ 0 ∷ ds) i 0) (getD (0 ∷ ds) i 0) (getD ds i 0) (getD ds (i + 1) caret)

@@ -26,13 +26,13 @@ as-refusal b k r n q e x =
     let j : r ≡ q = cc in
     subst (λ (y : ℕ). Refusal b n y) j (subst (λ (y : ℕ). Refusal b y r) i x)
 
-at-end : (b : List ℕ) (p m n q : ℕ) (e : Bool) (o : List Open) → Begun b → Reach b p m e o → length b ≤ p → endOf e o ≡ Refused n q → Refusal b n q
+at-end : (b : List ℕ) (p m n q : ℕ) (e : Bool) (o : List Open) → Begun b → Reach (get b) 1 p m e o → length b ≤ p → endOf e o ≡ Refused n q → Refusal b n q
 at-end b p m n q true [] s r h k = let z : _≡_ {A = ℕ} 0 1 = cc in absurd (omega arith)
 at-end b p m n q false [] s r h k = let z : _≡_ {A = ℕ} 0 1 = cc in absurd (omega arith)
 at-end b p m n q e (l ∷ o) s r h k = as-refusal b 26 (l .caret) n q k (unclosed s r h)
 
 -- the command where judging stands, and the rest by induction
-at-command : (b : List ℕ) (p m n q : ℕ) (e : Bool) (o : List Open) (t : Tok) → get b p ≡ t → Begun b → Reach b p m e o → p < length b → ((c : Part) (m′ : ℕ) (e′ : Bool) (o′ : List Open) → get b p ≡ good c → Reach b (p + sizeOf c) m′ e′ o′ → judge (tokensOf b (p + sizeOf c)) m′ (p + sizeOf c) e′ o′ ≡ Refused n q → Refusal b n q) → judge (chain t (λ z. tokensOf b (p + z))) m p e o ≡ Refused n q → Refusal b n q
+at-command : (b : List ℕ) (p m n q : ℕ) (e : Bool) (o : List Open) (t : Tok) → get b p ≡ t → Begun b → Reach (get b) 1 p m e o → p < length b → ((c : Part) (m′ : ℕ) (e′ : Bool) (o′ : List Open) → get b p ≡ good c → Reach (get b) 1 (p + sizeOf c) m′ e′ o′ → judge (tokensOf b (p + sizeOf c)) m′ (p + sizeOf c) e′ o′ ≡ Refused n q → Refusal b n q) → judge (chain t (λ z. tokensOf b (p + z))) m p e o ≡ Refused n q → Refusal b n q
 at-command b p m n q true o (good c) g s r h rest k = as-refusal b 27 p n q k (behind s r h)
 at-command b p m n q true o (bad i j) g s r h rest k = as-refusal b 27 p n q k (behind s r h)
 at-command b p m n q false o (bad i j) g s r h rest k = as-refusal b i j n q k (wrong s r h g)
@@ -42,13 +42,13 @@ at-command b p m n q false o (good c) g s r h rest k = by (structureOf (roleIn c
     by broken x k′ = as-refusal b 26 p n q k′ (loops s r g x)
     by (kept m′ e′ o′) x k′ = rest c m′ e′ o′ g (past r g x) k′
 
-from-reached : (b : List ℕ) (n q fuel p m : ℕ) (e : Bool) (o : List Open) → length b ≤ p + fuel → Begun b → Reach b p m e o → judge (tokensOf b p) m p e o ≡ Refused n q → Refusal b n q
+from-reached : (b : List ℕ) (n q fuel p m : ℕ) (e : Bool) (o : List Open) → length b ≤ p + fuel → Begun b → Reach (get b) 1 p m e o → judge (tokensOf b p) m p e o ≡ Refused n q → Refusal b n q
 from-reached b n q zero p m e o f s r k =
     let h : length b ≤ p = omega arith in
     at-end b p m n q e o s r h (sym (ap (λ (ts : List Tok). judge ts m p e o) (tokens-none b p h)) ∙ k)
 from-reached b n q (suc fuel) p m e o f s r k = go′ (λ c m′ e′ o′ h r′ k′. from-reached b n q fuel (p + sizeOf c) m′ e′ o′ h s r′ k′)
   where
-    go′ : ((c : Part) (m′ : ℕ) (e′ : Bool) (o′ : List Open) → length b ≤ p + sizeOf c + fuel → Reach b (p + sizeOf c) m′ e′ o′ → judge (tokensOf b (p + sizeOf c)) m′ (p + sizeOf c) e′ o′ ≡ Refused n q → Refusal b n q) → Refusal b n q
+    go′ : ((c : Part) (m′ : ℕ) (e′ : Bool) (o′ : List Open) → length b ≤ p + sizeOf c + fuel → Reach (get b) 1 (p + sizeOf c) m′ e′ o′ → judge (tokensOf b (p + sizeOf c)) m′ (p + sizeOf c) e′ o′ ≡ Refused n q → Refusal b n q) → Refusal b n q
     go′ rest =
         dite (decLt p (length b))
         (λ (l : p < length b).
@@ -74,13 +74,13 @@ refused-first b n q k = short (ltb 84 (length b)) refl k
     short false f k′ = front (eqb (getD b 0 0) caret) refl (ltb-false 84 (length b) f) k′
 
 -- judging gets to where it reaches
-pub reach-judge : {b : List ℕ} {p m : ℕ} {e : Bool} {o : List Open} → Reach b p m e o → commandsOf b ≡ judge (tokensOf b p) m p e o
-reach-judge start = refl
-reach-judge {b} (past {p = p} {m = m} {o = o} {c = c} r g x) =
+pub reach-judge : (b : List ℕ) {p m : ℕ} {e : Bool} {o : List Open} → Reach (get b) 1 p m e o → commandsOf b ≡ judge (tokensOf b p) m p e o
+reach-judge b start = refl
+reach-judge b (past {p = p} {m = m} {o = o} {c = c} r g x) =
     let t = get-two b p c g in
     let w = get-within b p c g in
     let l : p < length b = omega arith in
-    reach-judge r
+    reach-judge b r
     ∙ ap (λ (ts : List Tok). judge ts m p false o) (tokens-first b p l)
     ∙ ap (λ (k : Tok). judge (chain k (λ z. tokensOf b (p + z))) m p false o) g
     ∙ ap (λ (k : Structure). judged (moved p (p + sizeOf c) k) (λ next m′ e′ o′. judge (tokensOf b (p + sizeOf c)) m′ next e′ o′)) x
@@ -105,12 +105,12 @@ first-refused b n q (no-caret h k) =
     ∙ ap (λ (t : Bool). when t (commandsOf b) (Refused 21 0)) (ne-eqb (getD b 0 0) caret k)
 first-refused b n q (behind {p = p} {m = m} {o = o} s r h) =
     begun-judged b s
-    ∙ reach-judge r
+    ∙ reach-judge b r
     ∙ ap (λ (ts : List Tok). judge ts m p true o) (tokens-first b p h)
     ∙ ended-stops b p m o (get b p)
 first-refused b n q (wrong {p = p} {m = m} {o = o} s r h g) =
     begun-judged b s
-    ∙ reach-judge r
+    ∙ reach-judge b r
     ∙ ap (λ (ts : List Tok). judge ts m p false o) (tokens-first b p h)
     ∙ ap (λ (k : Tok). judge (chain k (λ z. tokensOf b (p + z))) m p false o) g
 first-refused b n q (loops {p = p} {m = m} {o = o} {c = c} s r g x) =
@@ -118,13 +118,13 @@ first-refused b n q (loops {p = p} {m = m} {o = o} {c = c} s r g x) =
     let w = get-within b p c g in
     let h : p < length b = omega arith in
     begun-judged b s
-    ∙ reach-judge r
+    ∙ reach-judge b r
     ∙ ap (λ (ts : List Tok). judge ts m p false o) (tokens-first b p h)
     ∙ ap (λ (k : Tok). judge (chain k (λ z. tokensOf b (p + z))) m p false o) g
     ∙ ap (λ (k : Structure). judged (moved p (p + sizeOf c) k) (λ next m′ e′ o′. judge (tokensOf b (p + sizeOf c)) m′ next e′ o′)) x
 first-refused b n q (unclosed {p = p} {m = m} {e = e} {l = l} {o = o} s r h) =
     begun-judged b s
-    ∙ reach-judge r
+    ∙ reach-judge b r
     ∙ ap (λ (ts : List Tok). judge ts m p e (l ∷ o)) (tokens-none b p h)
 
 -- so a body has one refusal at most, and an accepted one has none

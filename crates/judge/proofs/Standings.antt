@@ -32,21 +32,21 @@ pub record At (b : List ℕ) (q : ℕ) (s : Standing) : Type 0 where
   pub room : ℕ
   pub ended : Bool
   pub opens : List Open
-  pub reached : Reach b q room ended opens
+  pub reached : Reach (get b) 1 q room ended opens
   pub stands : s ≡ insideOf opens
 
 abbrev passed : ℕ → Tok → List Tok → (m p : ℕ) → Bool → List Open → Standing
 passed q t ts m p e o = stood (moveOf t m p e o) (λ next m′ e′ o′. standAt q ts m′ next e′ o′)
 
 -- the place is looked for as far as judging reaches before it
-reach-stand : {b : List ℕ} {p m : ℕ} {e : Bool} {o : List Open} (q : ℕ) → Reach b p m e o → p ≤ q → standAt q (tokensOf b 0) 1 0 false [] ≡ standAt q (tokensOf b p) m p e o
-reach-stand q start h = refl
-reach-stand {b} q (past {p = p} {m = m} {o = o} {c = c} r g x) h =
+reach-stand : (b : List ℕ) {p m : ℕ} {e : Bool} {o : List Open} (q : ℕ) → Reach (get b) 1 p m e o → p ≤ q → standAt q (tokensOf b 0) 1 0 false [] ≡ standAt q (tokensOf b p) m p e o
+reach-stand b q start h = refl
+reach-stand b q (past {p = p} {m = m} {o = o} {c = c} r g x) h =
     let t = get-two b p c g in
     let w = get-within b p c g in
     let l : p < length b = omega arith in
     let before : p ≤ q = omega arith in
-    reach-stand q r before
+    reach-stand b q r before
     ∙ ap (λ (ts : List Tok). standAt q ts m p false o) (tokens-first b p l)
     ∙ ap (λ (k : Tok). standAt q (chain k (λ z. tokensOf b (p + z))) m p false o) g
     ∙ ap (λ (k : Bool). when k (insideOf o) (passed q (good c) (tokensOf b (p + sizeOf c)) m p false o)) (ne-eqb p q (λ k. omega arith))
@@ -65,7 +65,7 @@ pub at-stands : (b : List ℕ) (q : ℕ) (s : Standing) → At b q s → standOf
 unfolding standOf
 at-stands b q s a =
     of-accepted (judgeOf b) (a .endless) (standAt q (tokensOf b 0) 1 0 false []) (a .accepted)
-    ∙ reach-stand q (a .reached) (omega arith)
+    ∙ reach-stand b q (a .reached) (omega arith)
     ∙ ap (λ (ts : List Tok). standAt q ts (a .room) q (a .ended) (a .opens)) (tokens-first b q (a .within))
     ∙ here b q (a .room) (a .ended) (a .opens) (get b q)
     ∙ sym (a .stands)
@@ -76,15 +76,15 @@ record Found (b : List ℕ) (q : ℕ) (s : Standing) : Type 0 where
   room : ℕ
   ended : Bool
   opens : List Open
-  reached : Reach b q room ended opens
+  reached : Reach (get b) 1 q room ended opens
   stands : s ≡ insideOf opens
 
 module _ (b : List ℕ) (q : ℕ) (s : Standing) (some : s ≡ Nowhere → ⊥) where
-  at-place : (p m : ℕ) (e : Bool) (o : List Open) → Reach b p m e o → p < length b → p ≡ q → insideOf o ≡ s → Found b q s
+  at-place : (p m : ℕ) (e : Bool) (o : List Open) → Reach (get b) 1 p m e o → p < length b → p ≡ q → insideOf o ≡ s → Found b q s
   at-place p m e o r l h k =
-      record { within = subst (λ (x : ℕ). x < length b) h l; room = m; ended = e; opens = o; reached = subst (λ (x : ℕ). Reach b x m e o) h r; stands = sym k }
+      record { within = subst (λ (x : ℕ). x < length b) h l; room = m; ended = e; opens = o; reached = subst (λ (x : ℕ). Reach (get b) 1 x m e o) h r; stands = sym k }
 
-  at-command : (p m : ℕ) (e : Bool) (o : List Open) (t : Tok) → get b p ≡ t → Reach b p m e o → p < length b → ((c : Part) (m′ : ℕ) (e′ : Bool) (o′ : List Open) → get b p ≡ good c → Reach b (p + sizeOf c) m′ e′ o′ → standAt q (tokensOf b (p + sizeOf c)) m′ (p + sizeOf c) e′ o′ ≡ s → Found b q s) → (k : Bool) → eqb p q ≡ k → (x : List Tok) → chain t (λ z. tokensOf b (p + z)) ≡ t ∷ x → when k (insideOf o) (passed q t x m p e o) ≡ s → Found b q s
+  at-command : (p m : ℕ) (e : Bool) (o : List Open) (t : Tok) → get b p ≡ t → Reach (get b) 1 p m e o → p < length b → ((c : Part) (m′ : ℕ) (e′ : Bool) (o′ : List Open) → get b p ≡ good c → Reach (get b) 1 (p + sizeOf c) m′ e′ o′ → standAt q (tokensOf b (p + sizeOf c)) m′ (p + sizeOf c) e′ o′ ≡ s → Found b q s) → (k : Bool) → eqb p q ≡ k → (x : List Tok) → chain t (λ z. tokensOf b (p + z)) ≡ t ∷ x → when k (insideOf o) (passed q t x m p e o) ≡ s → Found b q s
   at-command p m e o t g r l rest true f x y k = at-place p m e o r l (eqb-true p q f) k
   at-command p m true o t g r l rest false f x y k = absurd (some (sym k))
   at-command p m false o (bad i j) g r l rest false f x y k = absurd (some (sym k))
@@ -96,17 +96,17 @@ module _ (b : List ℕ) (q : ℕ) (s : Standing) (some : s ≡ Nowhere → ⊥) 
           let tail : tokensOf b (p + sizeOf c) ≡ x = cc in
           rest c m′ e′ o′ g (past r g z) (ap (λ (ts : List Tok). standAt q ts m′ (p + sizeOf c) e′ o′) tail ∙ k′)
 
-  found : (fuel p m : ℕ) (e : Bool) (o : List Open) → length b ≤ p + fuel → Reach b p m e o → standAt q (tokensOf b p) m p e o ≡ s → Found b q s
+  found : (fuel p m : ℕ) (e : Bool) (o : List Open) → length b ≤ p + fuel → Reach (get b) 1 p m e o → standAt q (tokensOf b p) m p e o ≡ s → Found b q s
   found zero p m e o f r k =
       let h : length b ≤ p = omega arith in
       absurd (some (sym k ∙ ap (λ (ts : List Tok). standAt q ts m p e o) (tokens-none b p h)))
   found (suc fuel) p m e o f r k = go′ (λ c m′ e′ o′ h r′ k′. found fuel (p + sizeOf c) m′ e′ o′ h r′ k′)
     where
-      cons : (t : Tok) → get b p ≡ t → p < length b → ((c : Part) (m′ : ℕ) (e′ : Bool) (o′ : List Open) → get b p ≡ good c → Reach b (p + sizeOf c) m′ e′ o′ → standAt q (tokensOf b (p + sizeOf c)) m′ (p + sizeOf c) e′ o′ ≡ s → Found b q s) → standAt q (chain t (λ z. tokensOf b (p + z))) m p e o ≡ s → Found b q s
+      cons : (t : Tok) → get b p ≡ t → p < length b → ((c : Part) (m′ : ℕ) (e′ : Bool) (o′ : List Open) → get b p ≡ good c → Reach (get b) 1 (p + sizeOf c) m′ e′ o′ → standAt q (tokensOf b (p + sizeOf c)) m′ (p + sizeOf c) e′ o′ ≡ s → Found b q s) → standAt q (chain t (λ z. tokensOf b (p + z))) m p e o ≡ s → Found b q s
       cons (good c) g l rest k′ = at-command p m e o (good c) g r l rest (eqb p q) refl (tokensOf b (p + sizeOf c)) refl k′
       cons (bad i j) g l rest k′ = at-command p m e o (bad i j) g r l rest (eqb p q) refl [] refl k′
 
-      go′ : ((c : Part) (m′ : ℕ) (e′ : Bool) (o′ : List Open) → length b ≤ p + sizeOf c + fuel → Reach b (p + sizeOf c) m′ e′ o′ → standAt q (tokensOf b (p + sizeOf c)) m′ (p + sizeOf c) e′ o′ ≡ s → Found b q s) → Found b q s
+      go′ : ((c : Part) (m′ : ℕ) (e′ : Bool) (o′ : List Open) → length b ≤ p + sizeOf c + fuel → Reach (get b) 1 (p + sizeOf c) m′ e′ o′ → standAt q (tokensOf b (p + sizeOf c)) m′ (p + sizeOf c) e′ o′ ≡ s → Found b q s) → Found b q s
       go′ rest =
           dite (decLt p (length b))
           (λ (l : p < length b).

@@ -90,7 +90,7 @@ act-range b p a (Good c) e h =
 act-range b p a (Bad n q) e h = let z : _≡_ {A = ℕ} 0 1 = cc in absurd (omega arith)
 
 -- a place that judging reaches in an accepted body stands in its open loops
-pub reached-stands : (b : List ℕ) (p q : ℕ) (s : Standing) (x : At b p s) (m : ℕ) (e : Bool) (o : List Open) → Reach b q m e o → q < length b
+pub reached-stands : (b : List ℕ) (p q : ℕ) (s : Standing) (x : At b p s) (m : ℕ) (e : Bool) (o : List Open) → Reach (get b) 1 q m e o → q < length b
     → standOf b q ≡ insideOf o
 reached-stands b p q s x m e o r within =
     at-stands b q (insideOf o)
@@ -143,7 +143,7 @@ holds-inside behind number left least most =
 module _ (r : Run) (shaped : length (r .body) ≡ 84) (sound : soundOf r ≡ true) (busy : r .len ≡ 0 → ⊥)
     (x : At (bodyOf r) (r .place) (standOf (bodyOf r) (r .place))) where
   -- a place of the body that judging reaches, settled with a loop that is held there
-  reached-sound : (q m : ℕ) (e : Bool) (o : List Open) (fs : List Frame) (σ : Settings) → Reach (bodyOf r) q m e o → settingsSound σ ≡ true
+  reached-sound : (q m : ℕ) (e : Bool) (o : List Open) (fs : List Frame) (σ : Settings) → Reach (get (bodyOf r)) 1 q m e o → settingsSound σ ≡ true
       → heldOf (insideOf o) (loopOf fs) ≡ true
       → framesOf (loopOf fs) ≡ fs
       → Kept r (settle (r .len) q fs σ)
@@ -162,7 +162,7 @@ module _ (r : Run) (shaped : length (r .body) ≡ 84) (sound : soundOf r ≡ tru
   -- behind the command at the run's place, within no loop
   free-keeps : (m : ℕ) (c : Part) → get (bodyOf r) (r .place) ≡ good c → (m′ : ℕ) (e′ : Bool) (o′ : List Open)
       → structureOf (roleIn c) m (opened (r .place) c) [] ≡ kept m′ e′ o′
-      → Reach (bodyOf r) (r .place + sizeOf c) m′ e′ o′
+      → Reach (get (bodyOf r)) 1 (r .place + sizeOf c) m′ e′ o′
       → Kept r (goesOf (r .len) c (r .place) [] (r .settings))
   free-keeps m (act a) g m′ e′ o′ k next =
       let none : [] ≡ o′ = cc in
@@ -188,7 +188,7 @@ module _ (r : Run) (shaped : length (r .body) ≡ 84) (sound : soundOf r ≡ tru
       → get (bodyOf r) (r .place) ≡ good c
       → (m′ : ℕ) (e′ : Bool) (o′ : List Open)
       → structureOf (roleIn c) m (opened (r .place) c) (l ∷ []) ≡ kept m′ e′ o′
-      → Reach (bodyOf r) (r .place + sizeOf c) m′ e′ o′
+      → Reach (get (bodyOf r)) 1 (r .place + sizeOf c) m′ e′ o′
       → Kept r (goesOf (r .len) c (r .place) (frame (l .behind) left ∷ []) (r .settings))
   loop-keeps m l left none least most w (act a) g m′ e′ o′ k next =
       let one : l ∷ [] ≡ o′ = cc in
@@ -221,7 +221,7 @@ module _ (r : Run) (shaped : length (r .body) ≡ 84) (sound : soundOf r ≡ tru
       → get (bodyOf r) (r .place) ≡ good c
       → (m′ : ℕ) (e′ : Bool) (o′ : List Open)
       → structureOf (roleIn c) m (opened (r .place) c) o ≡ kept m′ e′ o′
-      → Reach (bodyOf r) (r .place + sizeOf c) m′ e′ o′
+      → Reach (get (bodyOf r)) 1 (r .place + sizeOf c) m′ e′ o′
       → Kept r (goesOf (r .len) c (r .place) (framesOf (r .inner)) (r .settings))
   part-keeps m [] one w held c g m′ e′ o′ k next =
       subst (λ (fs : List Frame). Kept r (goesOf (r .len) c (r .place) fs (r .settings))) (sym (outside-held (r .inner) held))
@@ -240,11 +240,11 @@ run-keeps r shaped sound busy =
     let p = r .place in
     let x = busy-at r sound busy in
     let h = here b p (standOf b p) x in
-    let reach : Reach b p (x .room) false (x .opens) = subst (λ (e : Bool). Reach b p (x .room) e (x .opens)) (h .going) (x .reached) in
+    let reach : Reach (get b) 1 p (x .room) false (x .opens) = subst (λ (e : Bool). Reach (get b) 1 p (x .room) e (x .opens)) (h .going) (x .reached) in
     let held : heldOf (insideOf (x .opens)) (r .inner) ≡ true =
     ap (λ (s : Standing). heldOf s (r .inner)) (sym (x .stands)) ∙ sound-parts r sound .held busy in
     subst (λ (t : Tok). Kept r (wentAt (r .len) t p (framesOf (r .inner)) (r .settings))) (sym (h .there))
-    (part-keeps r shaped sound busy x (x .room) (x .opens) (reach-one reach) (reach-opens reach) held (h .part) (h .there) (h .room)
+    (part-keeps r shaped sound busy x (x .room) (x .opens) (reach-one b reach) (reach-opens b reach) held (h .part) (h .there) (h .room)
     (h .ended)
     (h .opens)
     (h .stays)

@@ -40,14 +40,14 @@ kept-one forever p m m′ e′ (l ∷ o) o′ h x = let a1 : suc m ≡ m′ = cc
 kept-one again p m m′ e′ [] o′ h x = let a1 : m ≡ m′ = cc in let a2 : _≡_ {A = List Open} [] o′ = cc in omega (arith, ap length a2)
 kept-one again p m m′ e′ (l ∷ o) o′ h x = let w : _≡_ {A = ℕ} 0 1 = cc in absurd (omega arith)
 
-pub reach-one : {b : List ℕ} {p m : ℕ} {e : Bool} {o : List Open} → Reach b p m e o → m + length o ≡ 1
-reach-one start = omega arith
-reach-one (past {p = p} {m = m} {m′ = m′} {o = o} {o′ = o′} {e′ = e′} {c = c} r g x) = kept-one c p m m′ e′ o o′ (reach-one r) x
+pub reach-one : (b : List ℕ) {p m : ℕ} {e : Bool} {o : List Open} → Reach (get b) 1 p m e o → m + length o ≡ 1
+reach-one b start = omega arith
+reach-one b (past {p = p} {m = m} {m′ = m′} {o = o} {o′ = o′} {e′ = e′} {c = c} r g x) = kept-one c p m m′ e′ o o′ (reach-one b r) x
 
 -- the innermost open loop was opened behind its `L`, at or before this place
 pub record Opened (b : List ℕ) (p : ℕ) (l : Open) : Type 0 where
   pub room : ℕ
-  pub reached : Reach b (l .behind) room false (l ∷ [])
+  pub reached : Reach (get b) 1 (l .behind) room false (l ∷ [])
   pub before : l .behind ≤ p
   pub least : 1 ≤ l .number
   pub most : l .number ≤ 99
@@ -66,7 +66,7 @@ no-more : (b : List ℕ) (p m : ℕ) (o : List Open) → m + suc (length o) ≡ 
 no-more b p m [] h = tt
 no-more b p m (l ∷ o) h = absurd (omega arith)
 
-opens-next : (b : List ℕ) (p m m′ : ℕ) (e′ : Bool) (o o′ : List Open) (c : Part) → Reach b p m false o → get b p ≡ good c
+opens-next : (b : List ℕ) (p m m′ : ℕ) (e′ : Bool) (o o′ : List Open) (c : Part) → Reach (get b) 1 p m false o → get b p ≡ good c
     → structureOf (roleIn c) m (opened p c) o ≡ kept m′ e′ o′
     → Opens b p o
     → Opens b (p + sizeOf c) o′
@@ -79,22 +79,22 @@ opens-next b p (suc m) m′ e′ [] o′ (rep n z) r g x w =
     let l = get-loop b p n z g in
     subst (Opens b (p + z)) a2
     (record { room = m; reached = past r g refl; before = omega arith; least = l .least; most = l .most })
-opens-next b p (suc m) m′ e′ (l ∷ o) o′ (rep n z) r g x w = absurd (omega (arith, reach-one r))
+opens-next b p (suc m) m′ e′ (l ∷ o) o′ (rep n z) r g x w = absurd (omega (arith, reach-one b r))
 opens-next b p m m′ e′ [] o′ close r g x w = let k : _≡_ {A = ℕ} 0 1 = cc in absurd (omega arith)
 opens-next b p m m′ e′ (l ∷ o) o′ close r g x w =
     let a2 : o ≡ o′ = cc in
-    subst (Opens b (p + 2)) a2 (no-more b (p + 2) m o (reach-one r))
+    subst (Opens b (p + 2)) a2 (no-more b (p + 2) m o (reach-one b r))
 opens-next b p m m′ e′ [] o′ forever r g x w = let k : _≡_ {A = ℕ} 0 1 = cc in absurd (omega arith)
 opens-next b p m m′ e′ (l ∷ o) o′ forever r g x w =
     let a2 : o ≡ o′ = cc in
-    subst (Opens b (p + 2)) a2 (no-more b (p + 2) m o (reach-one r))
+    subst (Opens b (p + 2)) a2 (no-more b (p + 2) m o (reach-one b r))
 opens-next b p m m′ e′ [] o′ again r g x w = let a2 : _≡_ {A = List Open} [] o′ = cc in subst (Opens b (p + 2)) a2 tt
 opens-next b p m m′ e′ (l ∷ o) o′ again r g x w = let k : _≡_ {A = ℕ} 0 1 = cc in absurd (omega arith)
 
-pub reach-opens : {b : List ℕ} {p m : ℕ} {e : Bool} {o : List Open} → Reach b p m e o → Opens b p o
-reach-opens start = tt
-reach-opens {b} (past {p = p} {m = m} {m′ = m′} {o = o} {o′ = o′} {e′ = e′} {c = c} r g x) =
-    opens-next b p m m′ e′ o o′ c r g x (reach-opens r)
+pub reach-opens : (b : List ℕ) {p m : ℕ} {e : Bool} {o : List Open} → Reach (get b) 1 p m e o → Opens b p o
+reach-opens b start = tt
+reach-opens b (past {p = p} {m = m} {m′ = m′} {o = o} {o′ = o′} {e′ = e′} {c = c} r g x) =
+    opens-next b p m m′ e′ o o′ c r g x (reach-opens b r)
 
 -- what stands at a place where judging of an accepted body stands: a good command that the rule of loops keeps
 pub record Here (b : List ℕ) (p m : ℕ) (e : Bool) (o : List Open) : Type 0 where
@@ -135,7 +135,7 @@ here b p s a =
     let v = acceptedAs (a .endless) in
     let y = accepted-yes (a .endless) in
     let c = accepting b v (a .accepted) y .1 .1 in
-    let j = sym (reach-judge (a .reached)) ∙ c in
+    let j = sym (reach-judge b (a .reached)) ∙ c in
     here-by b p (a .room) (a .ended) (a .opens) v (get b p) refl
     (sym (ap (λ (ts : List Tok). judge ts (a .room) p (a .ended) (a .opens)) (tokens-first b p (a .within))) ∙ j)
     y

@@ -13,7 +13,7 @@ use Rattle.course.specs.Steps.{setsOf}
 use Rattle.course.specs.Tree.{Block, stop, one, loop, flat}
 use Rattle.course.specs.Price.{ones, leavesOf, priceOf, firstThen}
 use Rattle.course.proofs.Accepts.{Depth}
-use Rattle.course.proofs.Loops.{Loop}
+use Rattle.judge.proofs.Values.{Loops}
 use Rattle.course.proofs.Runs.{At, past, at-past}
 
 -- passes of at most half of x commands each, and `E`
@@ -23,7 +23,7 @@ passes-bound m a b x c ha hb hc =
     omega (arith, mul-le-mul-left m each, mul-le-mul-right (x + 2) hc)
 
 module _ (g : ℕ → Tok) (len : ℕ) (two : (p : ℕ) (c : Part) → g p ≡ good c → 2 ≤ sizeOf c)
-    (loops : (p n z : ℕ) → g p ≡ good (rep n z) → Loop n z) where
+    (loops : (p n z : ℕ) → g p ≡ good (rep n z) → Loops n z) where
   -- a block without loops: two bytes a step
   flat-steps : (b : Block) (k : List Part) (p : ℕ) (σ : Settings) → Depth 0 b → At g len p (flat b k) → p + 2 * priceOf ones b σ ≤ past b p
   flat-steps stop k p σ d h = omega arith
@@ -54,8 +54,8 @@ module _ (g : ℕ → Tok) (len : ℕ) (two : (p : ℕ) (c : Part) → g p ≡ g
       ⊎-elim (λ w. omega arith) (λ w. omega arith) (deep-steps b k (q + 2) τ (d .1) behind) in
       dite (decLt n 10)
       (λ few. let nine : suc m ≤ 9 = omega arith in
-      inr (omega (arith, l .short, passes-bound m (priceOf ones body σ) (priceOf ones body τ) x 9 ha hb nine)))
-      (λ many. inr (omega (arith, l .long (omega arith), passes-bound m (priceOf ones body σ) (priceOf ones body τ) x 99 ha hb (l .most))))
+      inr (omega (arith, l .digits, passes-bound m (priceOf ones body σ) (priceOf ones body τ) x 9 ha hb nine)))
+      (λ many. inr (omega (arith, l .digits, passes-bound m (priceOf ones body σ) (priceOf ones body τ) x 99 ha hb (l .most))))
 
   pub most-steps : (b : Block) (σ : Settings) → Depth 1 b → At g len 0 (flat b []) → past b 0 ≤ 84 → priceOf ones b σ ≤ 3961
   most-steps b σ d h size = ⊎-elim (λ w. omega arith) (λ w. omega arith) (deep-steps b [] 0 σ d h)

@@ -2,7 +2,6 @@ pub mod Accepts
 pub mod Bound
 pub mod Changes
 pub mod Courses
-pub mod Loops
 pub mod Programs
 pub mod Runs
 pub mod Stands

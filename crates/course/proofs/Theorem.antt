@@ -20,7 +20,7 @@ use Rattle.course.proofs.Accepts.{shape, Depth}
 use Rattle.course.proofs.Bound.{most-steps}
 use Rattle.course.proofs.Changes.{Counted}
 use Rattle.course.proofs.Courses.{runs-after, runs-busy, runs-answers, Returns, never, led}
-use Rattle.course.proofs.Loops.{get-loop}
+use Rattle.judge.proofs.Values.{get-loop}
 use Rattle.course.proofs.Programs.{treeIn, Program, program}
 use Rattle.course.proofs.Runs.{Runs, done, At, past, at-past, tick, runs-append, settle-ready, block-runs}
 use Rattle.course.proofs.Sums.{price-is}

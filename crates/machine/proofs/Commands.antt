@@ -19,7 +19,7 @@ use Rattle.judge.specs.Token.{roleOf, partOf, actOf}
 use Rattle.course.specs.Steps.{saysOf}
 
 -- a number in the range of its kind is a byte
-range-byte : (k : Kind) (n : ℕ) → InRange (formOf k) n → n ≤ 255
+pub range-byte : (k : Kind) (n : ℕ) → InRange (formOf k) n → n ≤ 255
 range-byte II n h = omega arith
 range-byte IA n h = omega arith
 range-byte IB n h = omega arith

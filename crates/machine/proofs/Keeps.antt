@@ -33,7 +33,7 @@ use Rattle.judge.specs.declared.Standing.the-variants.{Nowhere, Outside, Inside
 use Rattle.judge.proofs.Standings.{At, at-stands}
 use Rattle.judge.proofs.Tokens.{get-two, get-within}
 use Rattle.course.specs.Steps.{Frame, frame, State, ready, at, settle, setsOf, closed, returned, goesOf, wentAt, nextOf, saidOf}
-use Rattle.course.proofs.Loops.{Loop, get-loop}
+use Rattle.judge.proofs.Values.{Acts, get-loop, get-act}
 use Rattle.machine.specs.Sound.{zerosOf, bodyOf, restsOf, heldOf, soundOf}
 use Rattle.machine.specs.Step.{outside, framesOf, loopOf, stateOf, readyOf, runOf, sayOf, wentOf, stepOf}
 use Rattle.machine.specs.Moves.{settledOf, ranOf}
@@ -71,23 +71,6 @@ settled-sound r q fs σ p busy e h =
     (λ other.
     let behind : r .len ≤ q = omega arith in
     ap soundOf (when-true (leb (r .len) q) (readyOf σ) _ (le-leb (r .len) q behind)) ∙ ready-sound σ e)
-
--- an act that stands in a body has its number in range
-in-range : (ρ : Role) (b : List ℕ) (p : ℕ) (c : Command) (a : Act) → InRange (formOf (c .kind)) (c .number) → partOf ρ (actOf b p c) ≡ act a
-    → InRange (formOf (a .kind)) (a .number)
-in-range Plain b p c a h e =
-    let same : actOf b p c ≡ a = cc in
-    subst (λ (x : Act). InRange (formOf (x .kind)) (x .number)) same h
-in-range Repeat b p c a h e = let z : _≡_ {A = ℕ} 0 1 = cc in absurd (omega arith)
-in-range Close b p c a h e = let z : _≡_ {A = ℕ} 0 1 = cc in absurd (omega arith)
-in-range Forever b p c a h e = let z : _≡_ {A = ℕ} 0 1 = cc in absurd (omega arith)
-in-range Again b p c a h e = let z : _≡_ {A = ℕ} 0 1 = cc in absurd (omega arith)
-
-act-range : (b : List ℕ) (p : ℕ) (a : Act) (r : Reading) → readOf b p ≡ r → tokOf b p r ≡ good (act a) → InRange (formOf (a .kind)) (a .number)
-act-range b p a (Good c) e h =
-    let q : partOf (roleOf (c .kind)) (actOf b p c) ≡ act a = cc in
-    in-range (roleOf (c .kind)) b p c a (number-in-range b p c e) q
-act-range b p a (Bad n q) e h = let z : _≡_ {A = ℕ} 0 1 = cc in absurd (omega arith)
 
 -- a place that judging reaches in an accepted body stands in its open loops
 pub reached-stands : (b : List ℕ) (p q : ℕ) (s : Standing) (x : At b p s) (m : ℕ) (e : Bool) (o : List Open) → Reach (get b) 1 q m e o → q < length b
@@ -166,7 +149,7 @@ module _ (r : Run) (shaped : length (r .body) ≡ 84) (sound : soundOf r ≡ tru
       → Kept r (goesOf (r .len) c (r .place) [] (r .settings))
   free-keeps m (act a) g m′ e′ o′ k next =
       let none : [] ≡ o′ = cc in
-      let set = behind-sound (a .kind) (a .number) (r .settings) (act-range (bodyOf r) (r .place) a (readOf (bodyOf r) (r .place)) refl g)
+      let set = behind-sound (a .kind) (a .number) (r .settings) (get-act (bodyOf r) (r .place) a g .range)
       (sound-parts r sound .set) in
       reached-sound (r .place + a .size) m′ e′ o′ [] (setsOf a (r .settings)) next set
       (ap (λ (o : List Open). heldOf (insideOf o) outside) (sym none))
@@ -192,7 +175,7 @@ module _ (r : Run) (shaped : length (r .body) ≡ 84) (sound : soundOf r ≡ tru
       → Kept r (goesOf (r .len) c (r .place) (frame (l .behind) left ∷ []) (r .settings))
   loop-keeps m l left none least most w (act a) g m′ e′ o′ k next =
       let one : l ∷ [] ≡ o′ = cc in
-      let set = behind-sound (a .kind) (a .number) (r .settings) (act-range (bodyOf r) (r .place) a (readOf (bodyOf r) (r .place)) refl g)
+      let set = behind-sound (a .kind) (a .number) (r .settings) (get-act (bodyOf r) (r .place) a g .range)
       (sound-parts r sound .set) in
       reached-sound (r .place + a .size) m′ e′ o′ (frame (l .behind) left ∷ []) (setsOf a (r .settings)) next set
       (ap (λ (o : List Open). heldOf (insideOf o) (record { place = l .behind; left = left })) (sym one)

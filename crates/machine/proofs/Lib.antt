@@ -7,6 +7,7 @@ pub mod Moves
 pub mod Ranges
 pub mod Reached
 pub mod Reckons
+pub mod Small
 pub mod Sounds
 pub mod Sums
 pub mod Wholes

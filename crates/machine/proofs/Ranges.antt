@@ -17,19 +17,19 @@ use Rattle.perform.specs.Settings.{soundOf, behindOf, forcedOf}
 use Rattle.perform.specs.declared.settings.Settings.{Settings}
 
 -- each setting in its range
-record Ranged (σ : Settings) : Type 0 where
-  pace-least : 1 ≤ σ .pace
-  pace-most : σ .pace ≤ 20
-  scans-least : 1 ≤ σ .scans
-  scans-most : σ .scans ≤ 6
-  dim-least : 1 ≤ σ .dim
-  bright-not : σ .bright ≡ 1 → ⊥
-  bright-most : σ .bright ≤ 31
+pub record Ranged (σ : Settings) : Type 0 where
+  pub pace-least : 1 ≤ σ .pace
+  pub pace-most : σ .pace ≤ 20
+  pub scans-least : 1 ≤ σ .scans
+  pub scans-most : σ .scans ≤ 6
+  pub dim-least : 1 ≤ σ .dim
+  pub bright-not : σ .bright ≡ 1 → ⊥
+  pub bright-most : σ .bright ≤ 31
 
 at-least : (a b : ℕ) → not (ltb a b) ≡ true → b ≤ a
 at-least a b e = ltb-false a b (not-true (ltb a b) e)
 
-ranged : (σ : Settings) → soundOf σ ≡ true → Ranged σ
+pub ranged : (σ : Settings) → soundOf σ ≡ true → Ranged σ
 unfolding soundOf
 ranged σ e =
     let a = and-parts (not (ltb (σ .pace) 1)) _ e in

@@ -21,7 +21,7 @@ use Rattle.judge.proofs.Refusals.{reach-judge}
 use Rattle.judge.proofs.Standings.{At, at-stands, stands-at}
 use Rattle.judge.proofs.Tokens.{get-two, tokens-first}
 use Rattle.course.proofs.Accepts.{Yes}
-use Rattle.course.proofs.Loops.{get-loop}
+use Rattle.judge.proofs.Values.{get-loop}
 use Rattle.course.proofs.Programs.{accepting}
 
 -- the loops that are open and those that may be opened are one together

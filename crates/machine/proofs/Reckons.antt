@@ -21,7 +21,7 @@ use Rattle.judge.specs.declared.Role.the-variants.{Plain, Repeat, Close, Foreve
 use Rattle.judge.proofs.Moves.{next-is}
 use Rattle.judge.proofs.Tokens.{tokens-first, tokens-none}
 use Rattle.course.specs.Steps.{saysOf}
-use Rattle.course.proofs.Loops.{get-loop}
+use Rattle.judge.proofs.Values.{get-loop}
 use Rattle.machine.specs.Reckon.{setsPart, addedOf, plainOf, strideOf, passOf, turnOf, loopedOf}
 use Rattle.machine.specs.Totals.{noneOf, costOf, plusOf, timesOf}
 use Rattle.machine.specs.declared.reckon.Reckoned.{Reckoned}

@@ -16,7 +16,7 @@ use Rattle.course.specs.Tree.{Block, stop, one, loop, flat}
 use Rattle.course.specs.Price.{ones, scans, millis, leavesOf, priceOf}
 use Rattle.course.proofs.Accepts.{Depth}
 use Rattle.course.proofs.Changes.{leaves-twice}
-use Rattle.course.proofs.Loops.{get-loop}
+use Rattle.judge.proofs.Values.{get-loop}
 use Rattle.course.proofs.Programs.{treeIn, program}
 use Rattle.course.proofs.Runs.{At, past, at-past}
 use Rattle.course.proofs.Theorem.{finite-stands}

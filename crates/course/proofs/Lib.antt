@@ -1,4 +1,5 @@
 pub mod Accepts
+pub mod Agrees
 pub mod Bound
 pub mod Changes
 pub mod Courses

@@ -1,4 +1,5 @@
 pub mod Commands
+pub mod Demand
 pub mod Follows
 pub mod Forecasts
 pub mod Keeps

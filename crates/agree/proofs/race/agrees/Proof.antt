@@ -1,0 +1,75 @@
+-- `agrees` lends the used part of the body, which lies within it.
+use mathlib.Core.Path.{_≡_, sym}
+use native.Mathlib.Omega.{arith}
+use lib.ListN.{length}
+use lib.Seq.{length-take-le}
+use borrow.Author.Needs.{needs}
+use Rattle.agree.proofs.race.agrees.Statement.{statement}
+use Rattle.agree.proofs.race.agrees.Tie as tie
+
+returns : tie.Need-returns
+returns c = search needs
+
+array-share-prefix-body : tie.Need-array-share-prefix-body
+array-share-prefix-body c =
+    let a = c .before .before .args .made in
+    let l : length (a .body) ≡ 84 = search needs in
+    omega arith
+
+slice-aggregate-forecast : tie.Need-slice-aggregate-forecast
+slice-aggregate-forecast c =
+    let a = c .before .before .before .args .made in
+    let l : length (a .body) ≡ 84 = search needs in
+    sym (length-take-le (a .len) (a .body) (omega arith))
+
+forecast-requires : tie.Need-forecast-requires
+forecast-requires c κs = search needs
+
+set-requires : tie.Need-set-requires
+set-requires c κs = search needs
+
+stepped-requires : tie.Need-stepped-requires
+stepped-requires c κs = search needs
+
+enum-known-told : tie.Need-enum-known-told
+enum-known-told c = search needs
+
+same-requires : tie.Need-same-requires
+same-requires c κs = search needs
+
+returns-2 : tie.Need-returns-2
+returns-2 c = search needs
+
+enum-told : tie.Need-enum-told
+enum-told c = search needs
+
+enum-told-2 : tie.Need-enum-told-2
+enum-told-2 c = search needs
+
+returns-3 : tie.Need-returns-3
+returns-3 c = search needs
+
+returns-4 : tie.Need-returns-4
+returns-4 c = search needs
+
+returns-5 : tie.Need-returns-5
+returns-5 c = search needs
+
+pub agrees-spec : {M : Type 1} → statement M
+agrees-spec =
+    tie.close
+    (tie.spec
+    returns
+    array-share-prefix-body
+    slice-aggregate-forecast
+    forecast-requires
+    set-requires
+    stepped-requires
+    enum-known-told
+    same-requires
+    returns-2
+    enum-told
+    enum-told-2
+    returns-3
+    returns-4
+    returns-5)

@@ -7,12 +7,12 @@ pub struct Made {
 }
 
 // The next of a run of numbers that look random.
-pub fn next(seed: u32) -> u32 {
+pub(crate) fn next(seed: u32) -> u32 {
     ((seed as u64 * 1103 + 12345) % 4294967296) as u32
 }
 
 // The body with a piece behind it, where there is room for it.
-pub fn append(made: Made, piece: &[u8]) -> Made {
+pub(crate) fn append(made: Made, piece: &[u8]) -> Made {
     let mut next = made;
     let mut at = made.len;
     let mut i: usize = 0;
@@ -30,7 +30,7 @@ pub fn append(made: Made, piece: &[u8]) -> Made {
 }
 
 // The body with a piece of this number behind it.
-pub fn piece(made: Made, n: u32) -> Made {
+pub(crate) fn piece(made: Made, n: u32) -> Made {
     if n == 0 {
         return append(made, b"^SHI");
     }

@@ -144,7 +144,7 @@ fn agreed() -> u64 {
 }
 
 // The count, in words.
-pub fn all() {
+pub(crate) fn all() {
     io::write_all(1, b"bodies 400, run as foretold ");
     io::print_decimal(1, agreed());
     io::write_all(1, b"\n");

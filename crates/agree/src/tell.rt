@@ -80,7 +80,7 @@ fn first(line: &[u8]) {
 }
 
 // All of them.
-pub fn examples() {
+pub(crate) fn examples() {
     forecast(b"^W5");
     forecast(b"^L3^W2^E");
     forecast(b"^SHI");

@@ -126,7 +126,7 @@ fn line_end(text: &[u8], from: usize) -> usize
 }
 
 // All lines.
-pub fn all(text: &[u8]) {
+pub(crate) fn all(text: &[u8]) {
     let mut at: usize = 0;
     while at < text.len() {
         let end = line_end(text, at);

@@ -51,7 +51,7 @@ fn refused(n: u8, place: usize) {
 }
 
 // What `judge` says of a body.
-pub fn judged(body: &[u8]) {
+pub(crate) fn judged(body: &[u8]) {
     bytes(body);
     io::write_all(1, b": ");
     let verdict = judge::judge(body);
@@ -68,7 +68,7 @@ pub fn judged(body: &[u8]) {
 }
 
 // The width of a text, and where it starts.
-pub fn measured(text: &[u8]) {
+pub(crate) fn measured(text: &[u8]) {
     bytes(text);
     let width = program::width(text);
     field(b": width ", width);
@@ -114,7 +114,7 @@ fn command(c: Command) {
 }
 
 // What `read_command` says of a place.
-pub fn read(body: &[u8], place: usize) {
+pub(crate) fn read(body: &[u8], place: usize) {
     bytes(body);
     field(b" at ", place);
     io::write_all(1, b": ");
@@ -127,7 +127,7 @@ pub fn read(body: &[u8], place: usize) {
 }
 
 // What `stand` says of a place.
-pub fn stood(body: &[u8], place: usize) {
+pub(crate) fn stood(body: &[u8], place: usize) {
     bytes(body);
     field(b" at ", place);
     io::write_all(1, b": ");

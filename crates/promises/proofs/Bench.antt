@@ -26,9 +26,16 @@ foretold b e =
 
 pub all-starred : All starred
 unfolding sum packetOf replyOf readOf commandAt judgeOf answerOf
-all-starred =
-    (refl,
-    (refl,
-    (refl,
-    (refl,
-    (refl, (refl, (foretold w5 refl, (foretold l3w2e refl, (foretold shi refl, (foretold s refl, (foretold slow refl, (refl, (refl, (refl, (refl, tt)))))))))))))))
+all-starred = (
+  refl,
+  (
+    refl,
+    (
+      refl,
+      (
+        refl,
+        (refl, (refl, (foretold w5 refl, (foretold l3w2e refl, (foretold shi refl, (foretold s refl, (foretold slow refl, (refl, (refl, (refl, (refl, tt))))))))))),
+      ),
+    ),
+  ),
+)

@@ -1,0 +1,104 @@
+-- Ours keeps the promise of the line, and the three wrong machines do not.
+use Prim.Native.Nat.{ℕ, zero, suc, _+_, _<_}
+use mathlib.Core.Bool.{Bool, true, false}
+use mathlib.Core.List.{List, [], _∷_}
+use mathlib.Core.Path.{_≡_, refl, sym, ap, _∙_}
+use native.Mathlib.Omega.{arith}
+use lib.Dec.{eqb}
+use lib.ListN.{length}
+use borrow.Author.Tests.{eq-eqb, ne-eqb}
+use Rattle.program.specs.Command.{readOf as commandAt}
+use Rattle.perform.specs.Price.{answerOf}
+use Rattle.perform.specs.Settings.{soundOf}
+use Rattle.perform.specs.declared.settings.Settings.{Settings}
+use Rattle.perform.specs.declared.price.Performed.{Performed}
+use Rattle.judge.specs.Verdict.{judgeOf}
+use Rattle.judge.specs.declared.Verdict.the-variants.{Finite}
+use Rattle.machine.specs.Forecast.{settingsAt, forecastOf}
+use Rattle.machine.specs.Step.{readyOf, stepOf, afterRun, saidRun, startedOf}
+use Rattle.machine.specs.Totals.{totalsOf}
+use Rattle.machine.specs.declared.Answer.{Answer}
+use Rattle.machine.specs.declared.Answer.the-variants.{Did, Idle}
+use Rattle.machine.specs.declared.Run.{Run}
+use Rattle.machine.specs.declared.reckon.Foretold.{Foretold}
+use Rattle.machine.specs.declared.reckon.Foretold.the-variants.{Ends, Endless as Never, Refused as RefusedForecast}
+use Rattle.machine.proofs.Demand.{forecast-holds, forecast-never}
+use Rattle.machine.proofs.Lines.{dids, line-ends, line-never}
+use Rattle.promises.specs.Bench.{w5}
+use Rattle.promises.specs.Line.{Machine, after, said, lineOf, performed, Runs, Goes, LineRuns, ours, atOnce, madeUp, inventing, counting}
+
+after-is : (k : ℕ) (r : Run) → after ours k r ≡ afterRun k r
+after-is zero r = refl
+after-is (suc k) r = after-is k (stepOf r .run)
+
+said-is : (k : ℕ) (r : Run) → said ours k r ≡ saidRun k r
+said-is zero r = refl
+said-is (suc k) r = ap (λ (xs : List Answer). stepOf r .answer ∷ xs) (said-is k (stepOf r .run))
+
+dids-are : (xs : List Performed) → dids xs ≡ performed xs
+dids-are [] = refl
+dids-are (x ∷ xs) = ap (λ (ys : List Answer). Did x ∷ ys) (dids-are xs)
+
+ready-none : (σ : Settings) → readyOf σ .len ≡ 0
+unfolding readyOf
+ready-none σ = refl
+
+busy-is : (k : ℕ) (r : Run) → (afterRun k r .len ≡ 0 → ⊥) → ours .ready (after ours k r) ≡ false
+busy-is k r h = ap (λ (x : Run). eqb (x .len) 0) (after-is k r) ∙ ne-eqb (afterRun k r .len) 0 h
+
+pub ours-runs : LineRuns ours
+ours-runs =
+    record {
+      finite = λ b σ set e.
+          let l = line-ends b e σ set in
+          record {
+            foretold = forecast-holds b σ set e;
+            busy-before = λ k less. busy-is k (startedOf b σ) (l .busy-before k less);
+            ready-then =
+                ap (λ (x : Run). eqb (x .len) 0) (after-is (length (lineOf b σ)) (startedOf b σ) ∙ l .ready-then) ∙ eq-eqb _ 0 (ready-none _);
+            answers = said-is (length (lineOf b σ)) (startedOf b σ) ∙ l .performed ∙ dids-are (lineOf b σ);
+            most = l .most;
+          };
+      endless = λ b σ set e.
+          record { foretold = forecast-never b σ set e; never = λ k. busy-is k (startedOf b σ) (line-never b e σ set k) };
+    }
+
+-- the settings that a sign is set to when it is switched on
+usual : Settings
+usual = settingsAt 4 1
+
+pub at-once-fails : LineRuns atOnce → ⊥
+unfolding usual commandAt judgeOf soundOf answerOf
+at-once-fails p =
+    let r = p .finite w5 usual refl refl in
+    let e = r .foretold in
+    let z : _≡_ {A = ℕ} 0 1 = cc in
+    omega arith
+
+-- the scans that are foretold
+scansIn : Foretold → ℕ
+scansIn (Ends t) = t .scans .0
+scansIn Never = 0
+scansIn (RefusedForecast n p) = 0
+
+pub inventing-fails : LineRuns inventing → ⊥
+unfolding scansIn usual commandAt judgeOf soundOf answerOf
+inventing-fails p =
+    let r = p .finite w5 usual refl refl in
+    let e : madeUp (forecastOf w5 4 1) ≡ Ends (totalsOf 1 0 500) = r .foretold in
+    let t : forecastOf w5 4 1 ≡ Ends (totalsOf 1 0 500) = forecast-holds w5 usual refl refl in
+    let w : Ends (totalsOf 1 1 500) ≡ Ends (totalsOf 1 0 500) = sym (ap madeUp t) ∙ e in
+    let n : _≡_ {A = ℕ} 1 0 = ap scansIn w in
+    omega arith
+
+-- `^L2^W1^E`
+twice : List ℕ
+twice = 0x5E ∷ 0x4C ∷ 0x32 ∷ 0x5E ∷ 0x57 ∷ 0x31 ∷ 0x5E ∷ 0x45 ∷ []
+
+pub counting-fails : LineRuns counting → ⊥
+unfolding usual twice commandAt judgeOf soundOf answerOf
+counting-fails p =
+    let r = p .finite twice usual refl refl in
+    let e = r .answers in
+    let z : _≡_ {A = ℕ} 0 1 = cc in
+    omega arith

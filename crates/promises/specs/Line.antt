@@ -1,0 +1,139 @@
+-- The line runs: demand 3 as a statement over any machine that starts a body, steps it and forecasts it.
+-- "An accepted program without an endless ending, started at any legal pace and scan setting and not reset, becomes Ready after
+-- exactly the forecast number of steps and not sooner. The scans and milliseconds of those steps add up to the forecast, and the
+-- steps never pass 3,961. An endless program is forecast as endless and, unless reset, is never Ready, however many steps it gets.
+-- No step of an accepted program is refused."
+use Prim.Native.Nat.{ℕ, zero, suc, _≤_, _<_}
+use mathlib.Core.Bool.{Bool, true, false}
+use mathlib.Core.List.{List, [], _∷_, _++_}
+use mathlib.Core.Path.{_≡_}
+use lib.Dec.{eqb}
+use lib.ListN.{length}
+use Rattle.perform.specs.Settings.{soundOf}
+use Rattle.perform.specs.declared.settings.Settings.{Settings}
+use Rattle.perform.specs.declared.price.Performed.{Performed}
+use Rattle.judge.specs.Verdict.{judgeOf}
+use Rattle.judge.specs.declared.Verdict.the-variants.{Finite, Endless}
+use Rattle.judge.specs.Token.{act, rep, close}
+use Rattle.course.specs.Steps.{saysOf, setsOf}
+use Rattle.course.specs.Tree.{Block, stop, one, loop, unrolled}
+use Rattle.course.specs.Price.{sumBy, scans, millis, leavesOf}
+use Rattle.course.proofs.Programs.{treeIn}
+use Rattle.machine.specs.Forecast.{forecastOf}
+use Rattle.machine.specs.Step.{stepOf, startedOf}
+use Rattle.machine.specs.Totals.{totalsOf}
+use Rattle.machine.specs.declared.Answer.{Answer}
+use Rattle.machine.specs.declared.Answer.the-variants.{Did, Idle}
+use Rattle.machine.specs.declared.Run.{Run}
+use Rattle.machine.specs.declared.reckon.Foretold.{Foretold}
+use Rattle.machine.specs.declared.reckon.Foretold.the-variants.{Ends, Endless as Never, Refused as RefusedForecast}
+
+-- what a machine is: its runs, and what it does with them
+pub record Machine (R : Type 0) : Type 0 where
+  pub start : List ℕ → Settings → R
+  pub step : R → R
+  pub says : R → Answer
+  pub ready : R → Bool
+  pub forecast : List ℕ → ℕ → ℕ → Foretold
+
+abbrev pub after : {R : Type 0} → Machine R → ℕ → R → R
+after m zero r = r
+after m (suc k) r = after m k (m .step r)
+
+abbrev pub said : {R : Type 0} → Machine R → ℕ → R → List Answer
+said m zero r = []
+said m (suc k) r = m .says r ∷ said m k (m .step r)
+
+-- what a body performs, one command after the other, from given settings: its unrolling
+abbrev pub lineOf : List ℕ → Settings → List Performed
+lineOf b σ = unrolled (treeIn b .block) σ
+
+abbrev pub performed : List Performed → List Answer
+performed [] = []
+performed (x ∷ xs) = Did x ∷ performed xs
+
+-- a program that ends
+pub record Runs {R : Type 0} (m : Machine R) (b : List ℕ) (σ : Settings) : Type 0 where
+  pub foretold : m .forecast b (σ .pace) (σ .scans) ≡ Ends (totalsOf (length (lineOf b σ)) (sumBy scans (lineOf b σ)) (sumBy millis (lineOf b σ)))
+  pub busy-before : (k : ℕ) → k < length (lineOf b σ) → m .ready (after m k (m .start b σ)) ≡ false
+  pub ready-then : m .ready (after m (length (lineOf b σ)) (m .start b σ)) ≡ true
+  pub answers : said m (length (lineOf b σ)) (m .start b σ) ≡ performed (lineOf b σ)
+  pub most : length (lineOf b σ) ≤ 3961
+
+-- and one that never does
+pub record Goes {R : Type 0} (m : Machine R) (b : List ℕ) (σ : Settings) : Type 0 where
+  pub foretold : m .forecast b (σ .pace) (σ .scans) ≡ Never
+  pub never : (k : ℕ) → m .ready (after m k (m .start b σ)) ≡ false
+
+-- the promise
+pub record LineRuns {R : Type 0} (m : Machine R) : Type 0 where
+  pub finite : (b : List ℕ) (σ : Settings) → soundOf σ ≡ true → judgeOf b ≡ Finite → Runs m b σ
+  pub endless : (b : List ℕ) (σ : Settings) → soundOf σ ≡ true → judgeOf b ≡ Endless → Goes m b σ
+
+-- ours
+abbrev pub ours : Machine Run
+ours =
+    record {
+      start = startedOf;
+      step = λ r. stepOf r .run;
+      says = λ r. stepOf r .answer;
+      ready = λ r. eqb (r .len) 0;
+      forecast = forecastOf;
+    }
+
+-- one that is Ready at once, beside a forecast of nothing
+abbrev pub atOnce : Machine ℕ
+atOnce =
+    record { start = λ b σ. 0; step = λ r. r; says = λ r. Idle; ready = λ r. true; forecast = λ b pace each. Ends (totalsOf 0 0 0) }
+
+-- one whose scans are made up
+abbrev pub madeUp : Foretold → Foretold
+madeUp (Ends t) = Ends (totalsOf (t .steps .0) (suc (t .scans .0)) (t .millis .0))
+madeUp Never = Never
+madeUp (RefusedForecast n p) = RefusedForecast n p
+
+abbrev pub inventing : Machine Run
+inventing =
+    record {
+      start = startedOf;
+      step = λ r. stepOf r .run;
+      says = λ r. stepOf r .answer;
+      ready = λ r. eqb (r .len) 0;
+      forecast = λ b pace each. madeUp (forecastOf b pace each);
+    }
+
+-- one that performs its first pass and then only counts: it holds what is left to say and how many steps are left
+pub record Counting : Type 0 where
+  pub left : ℕ
+  pub script : List Answer
+
+abbrev pub lowered : ℕ → ℕ
+lowered zero = zero
+lowered (suc n) = n
+
+abbrev pub rest : List Answer → List Answer
+rest [] = []
+rest (x ∷ xs) = xs
+
+abbrev pub first : List Answer → Answer
+first [] = Idle
+first (x ∷ xs) = x
+
+-- each loop of a block passed once
+abbrev pub once : Block → Settings → List Performed
+once stop σ = []
+once (one a t) σ = saysOf (act a) σ ∷ once t (setsOf a σ)
+once (loop n z body t) σ = saysOf (rep n z) σ ∷ (once body σ ++ (saysOf close σ ∷ once t (leavesOf body σ)))
+
+abbrev pub oncePassed : List ℕ → Settings → List Performed
+oncePassed b σ = once (treeIn b .block) σ
+
+abbrev pub counting : Machine Counting
+counting =
+    record {
+      start = λ b σ. record { left = length (lineOf b σ); script = performed (oncePassed b σ) };
+      step = λ r. record { left = lowered (r .left); script = rest (r .script) };
+      says = λ r. first (r .script);
+      ready = λ r. eqb (r .left) 0;
+      forecast = forecastOf;
+    }

@@ -1,0 +1,269 @@
+-- One outcome: for each public call, any two outcomes that its contract allows are equal, of the answer and of every lent byte. It is
+-- stated over the contract as the prover reads it (`Post`), so no copy of a contract can drift from it.
+use mathlib.Core.Path.{_≡_, sym, ap, _∙_}
+use denote.Ref.{now}
+use contract.Lifetimes
+use denote.Triple.Clauses
+use borrow.Fn.World
+use borrow.Fn.Kinds as K
+use Rattle.packet.proofs.read_packet as packet-read-packet
+use Rattle.packet.proofs.read_packet.Kinds as packet-read-packet-kinds
+use Rattle.packet.proofs.read_packet.Reads as packet-read-packet-reads
+use Rattle.packet.proofs.write_query as packet-write-query
+use Rattle.packet.proofs.write_query.Kinds as packet-write-query-kinds
+use Rattle.packet.proofs.write_query.Reads as packet-write-query-reads
+use Rattle.packet.proofs.write_reset as packet-write-reset
+use Rattle.packet.proofs.write_reset.Kinds as packet-write-reset-kinds
+use Rattle.packet.proofs.write_reset.Reads as packet-write-reset-reads
+use Rattle.packet.proofs.write_packet as packet-write-packet
+use Rattle.packet.proofs.write_packet.Kinds as packet-write-packet-kinds
+use Rattle.packet.proofs.write_packet.Reads as packet-write-packet-reads
+use Rattle.packet.proofs.write_transmission as packet-write-transmission
+use Rattle.packet.proofs.write_transmission.Kinds as packet-write-transmission-kinds
+use Rattle.packet.proofs.write_transmission.Reads as packet-write-transmission-reads
+use Rattle.packet.proofs.read_reply as packet-read-reply
+use Rattle.packet.proofs.read_reply.Kinds as packet-read-reply-kinds
+use Rattle.packet.proofs.read_reply.Reads as packet-read-reply-reads
+use Rattle.packet.proofs.write_reply as packet-write-reply
+use Rattle.packet.proofs.write_reply.Kinds as packet-write-reply-kinds
+use Rattle.packet.proofs.write_reply.Reads as packet-write-reply-reads
+use Rattle.packet.proofs.is_last as packet-is-last
+use Rattle.packet.proofs.is_last.Kinds as packet-is-last-kinds
+use Rattle.packet.proofs.is_last.Reads as packet-is-last-reads
+use Rattle.packet.proofs.checksum as packet-checksum
+use Rattle.packet.proofs.checksum.Kinds as packet-checksum-kinds
+use Rattle.packet.proofs.checksum.Reads as packet-checksum-reads
+use Rattle.program.proofs.read_command as program-read-command
+use Rattle.program.proofs.read_command.Kinds as program-read-command-kinds
+use Rattle.program.proofs.read_command.Reads as program-read-command-reads
+use Rattle.program.proofs.width as program-width
+use Rattle.program.proofs.width.Kinds as program-width-kinds
+use Rattle.program.proofs.width.Reads as program-width-reads
+use Rattle.program.proofs.fits as program-fits
+use Rattle.program.proofs.fits.Kinds as program-fits-kinds
+use Rattle.program.proofs.fits.Reads as program-fits-reads
+use Rattle.program.proofs.start_column as program-start-column
+use Rattle.program.proofs.start_column.Kinds as program-start-column-kinds
+use Rattle.program.proofs.start_column.Reads as program-start-column-reads
+use Rattle.judge.proofs.judge as judge-judge
+use Rattle.judge.proofs.judge.Kinds as judge-judge-kinds
+use Rattle.judge.proofs.judge.Reads as judge-judge-reads
+use Rattle.judge.proofs.stand as judge-stand
+use Rattle.judge.proofs.stand.Kinds as judge-stand-kinds
+use Rattle.judge.proofs.stand.Reads as judge-stand-reads
+use Rattle.judge.proofs.role_of as judge-role-of
+use Rattle.judge.proofs.role_of.Kinds as judge-role-of-kinds
+use Rattle.judge.proofs.role_of.Reads as judge-role-of-reads
+use Rattle.perform.proofs.perform as perform-perform
+use Rattle.perform.proofs.perform.Kinds as perform-perform-kinds
+use Rattle.perform.proofs.perform.Reads as perform-perform-reads
+use Rattle.perform.proofs.settings.Settings.sound as perform-settings-Settings-sound
+use Rattle.perform.proofs.settings.Settings.sound.Kinds as perform-settings-Settings-sound-kinds
+use Rattle.perform.proofs.settings.Settings.sound.Reads as perform-settings-Settings-sound-reads
+use Rattle.perform.proofs.settings.Settings.behind as perform-settings-Settings-behind
+use Rattle.perform.proofs.settings.Settings.behind.Kinds as perform-settings-Settings-behind-kinds
+use Rattle.perform.proofs.settings.Settings.behind.Reads as perform-settings-Settings-behind-reads
+use Rattle.machine.proofs.Run.step as machine-Run-step
+use Rattle.machine.proofs.Run.step.Kinds as machine-Run-step-kinds
+use Rattle.machine.proofs.Run.step.Reads as machine-Run-step-reads
+use Rattle.machine.proofs.Run.sound as machine-Run-sound
+use Rattle.machine.proofs.Run.sound.Kinds as machine-Run-sound-kinds
+use Rattle.machine.proofs.Run.sound.Reads as machine-Run-sound-reads
+use Rattle.machine.proofs.forecast as machine-forecast
+use Rattle.machine.proofs.forecast.Kinds as machine-forecast-kinds
+use Rattle.machine.proofs.forecast.Reads as machine-forecast-reads
+use Rattle.machine.proofs.totals.Totals.none as machine-totals-Totals-none
+use Rattle.machine.proofs.totals.Totals.none.Kinds as machine-totals-Totals-none-kinds
+use Rattle.machine.proofs.totals.Totals.none.Reads as machine-totals-Totals-none-reads
+use Rattle.machine.proofs.totals.Totals.cost as machine-totals-Totals-cost
+use Rattle.machine.proofs.totals.Totals.cost.Kinds as machine-totals-Totals-cost-kinds
+use Rattle.machine.proofs.totals.Totals.cost.Reads as machine-totals-Totals-cost-reads
+use Rattle.machine.proofs.totals.Totals.plus as machine-totals-Totals-plus
+use Rattle.machine.proofs.totals.Totals.plus.Kinds as machine-totals-Totals-plus-kinds
+use Rattle.machine.proofs.totals.Totals.plus.Reads as machine-totals-Totals-plus-reads
+use Rattle.machine.proofs.totals.Totals.times as machine-totals-Totals-times
+use Rattle.machine.proofs.totals.Totals.times.Kinds as machine-totals-Totals-times-kinds
+use Rattle.machine.proofs.totals.Totals.times.Reads as machine-totals-Totals-times-reads
+use Rattle.units.proofs.Steps.add as units-Steps-add
+use Rattle.units.proofs.Steps.add.Kinds as units-Steps-add-kinds
+use Rattle.units.proofs.Steps.add.Reads as units-Steps-add-reads
+use Rattle.units.proofs.Steps.times as units-Steps-times
+use Rattle.units.proofs.Steps.times.Kinds as units-Steps-times-kinds
+use Rattle.units.proofs.Steps.times.Reads as units-Steps-times-reads
+use Rattle.units.proofs.Shifts.add as units-Shifts-add
+use Rattle.units.proofs.Shifts.add.Kinds as units-Shifts-add-kinds
+use Rattle.units.proofs.Shifts.add.Reads as units-Shifts-add-reads
+use Rattle.units.proofs.Shifts.scans as units-Shifts-scans
+use Rattle.units.proofs.Shifts.scans.Kinds as units-Shifts-scans-kinds
+use Rattle.units.proofs.Shifts.scans.Reads as units-Shifts-scans-reads
+use Rattle.units.proofs.Scans.add as units-Scans-add
+use Rattle.units.proofs.Scans.add.Kinds as units-Scans-add-kinds
+use Rattle.units.proofs.Scans.add.Reads as units-Scans-add-reads
+use Rattle.units.proofs.Scans.times as units-Scans-times
+use Rattle.units.proofs.Scans.times.Kinds as units-Scans-times-kinds
+use Rattle.units.proofs.Scans.times.Reads as units-Scans-times-reads
+use Rattle.units.proofs.Scans.millis as units-Scans-millis
+use Rattle.units.proofs.Scans.millis.Kinds as units-Scans-millis-kinds
+use Rattle.units.proofs.Scans.millis.Reads as units-Scans-millis-reads
+use Rattle.units.proofs.Millis.add as units-Millis-add
+use Rattle.units.proofs.Millis.add.Kinds as units-Millis-add-kinds
+use Rattle.units.proofs.Millis.add.Reads as units-Millis-add-reads
+use Rattle.units.proofs.Millis.times as units-Millis-times
+use Rattle.units.proofs.Millis.times.Kinds as units-Millis-times-kinds
+use Rattle.units.proofs.Millis.times.Reads as units-Millis-times-reads
+use Rattle.units.proofs.Millis.tenths as units-Millis-tenths
+use Rattle.units.proofs.Millis.tenths.Kinds as units-Millis-tenths-kinds
+use Rattle.units.proofs.Millis.tenths.Reads as units-Millis-tenths-reads
+
+-- two that are equal to a third are equal: all that is needed where a contract is an equation
+one : {A : Type 0} {x y z : A} → x ≡ z → y ≡ z → x ≡ y
+one h k = h ∙ sym k
+
+pub one-packet-read-packet : (κs : Lifetimes.Lfts 1) (a : World.ArgsD packet-read-packet.signature κs) (r r′ : World.ResD packet-read-packet.signature κs)
+    (s s′ : Clauses.AtExit (K.endedOf 1 packet-read-packet-kinds.ps packet-read-packet-kinds.r) κs) → packet-read-packet-reads.Post κs a r s → packet-read-packet-reads.Post κs a r′ s′ → r ≡ r′
+one-packet-read-packet κs a r r′ s s′ h h′ = one h h′
+
+pub one-packet-write-query : (κs : Lifetimes.Lfts 1) (a : World.ArgsD packet-write-query.signature κs) (r r′ : World.ResD packet-write-query.signature κs)
+    (s s′ : Clauses.AtExit (K.endedOf 1 packet-write-query-kinds.ps packet-write-query-kinds.r) κs) → packet-write-query-reads.Post κs a r s → packet-write-query-reads.Post κs a r′ s′
+    → (r ≡ r′) × (now (s .1 .0) ≡ now (s′ .1 .0))
+one-packet-write-query κs a r r′ s s′ h h′ = (one (h .answered) (h′ .answered), one (h .left) (h′ .left))
+
+pub one-packet-write-reset : (κs : Lifetimes.Lfts 1) (a : World.ArgsD packet-write-reset.signature κs) (r r′ : World.ResD packet-write-reset.signature κs)
+    (s s′ : Clauses.AtExit (K.endedOf 1 packet-write-reset-kinds.ps packet-write-reset-kinds.r) κs) → packet-write-reset-reads.Post κs a r s → packet-write-reset-reads.Post κs a r′ s′
+    → (r ≡ r′) × (now (s .1 .0) ≡ now (s′ .1 .0))
+one-packet-write-reset κs a r r′ s s′ h h′ = (one (h .answered) (h′ .answered), one (h .left) (h′ .left))
+
+pub one-packet-write-packet : (κs : Lifetimes.Lfts 2) (a : World.ArgsD packet-write-packet.signature κs) (r r′ : World.ResD packet-write-packet.signature κs)
+    (s s′ : Clauses.AtExit (K.endedOf 2 packet-write-packet-kinds.ps packet-write-packet-kinds.r) κs) → packet-write-packet-reads.Post κs a r s → packet-write-packet-reads.Post κs a r′ s′
+    → (r ≡ r′) × (now (s .1 .1 .1 .1 .0) ≡ now (s′ .1 .1 .1 .1 .0))
+one-packet-write-packet κs a r r′ s s′ h h′ = (one (h .answered) (h′ .answered), one (h .left) (h′ .left))
+
+pub one-packet-write-transmission : (κs : Lifetimes.Lfts 2) (a : World.ArgsD packet-write-transmission.signature κs) (r r′ : World.ResD packet-write-transmission.signature κs)
+    (s s′ : Clauses.AtExit (K.endedOf 2 packet-write-transmission-kinds.ps packet-write-transmission-kinds.r) κs) → packet-write-transmission-reads.Post κs a r s → packet-write-transmission-reads.Post κs a r′ s′
+    → (r ≡ r′) × (now (s .1 .1 .1 .0) ≡ now (s′ .1 .1 .1 .0))
+one-packet-write-transmission κs a r r′ s s′ h h′ = (one (h .answered) (h′ .answered), one (h .left) (h′ .left))
+
+pub one-packet-read-reply : (κs : Lifetimes.Lfts 1) (a : World.ArgsD packet-read-reply.signature κs) (r r′ : World.ResD packet-read-reply.signature κs)
+    (s s′ : Clauses.AtExit (K.endedOf 1 packet-read-reply-kinds.ps packet-read-reply-kinds.r) κs) → packet-read-reply-reads.Post κs a r s → packet-read-reply-reads.Post κs a r′ s′ → r ≡ r′
+one-packet-read-reply κs a r r′ s s′ h h′ = one h h′
+
+pub one-packet-write-reply : (κs : Lifetimes.Lfts 1) (a : World.ArgsD packet-write-reply.signature κs) (r r′ : World.ResD packet-write-reply.signature κs)
+    (s s′ : Clauses.AtExit (K.endedOf 1 packet-write-reply-kinds.ps packet-write-reply-kinds.r) κs) → packet-write-reply-reads.Post κs a r s → packet-write-reply-reads.Post κs a r′ s′
+    → (r ≡ r′) × (now (s .1 .1 .1 .1 .0) ≡ now (s′ .1 .1 .1 .1 .0))
+one-packet-write-reply κs a r r′ s s′ h h′ = (one (h .answered) (h′ .answered), one (h .left) (h′ .left))
+
+pub one-packet-is-last : (κs : Lifetimes.Lfts 0) (a : World.ArgsD packet-is-last.signature κs) (r r′ : World.ResD packet-is-last.signature κs)
+    (s s′ : Clauses.AtExit (K.endedOf 0 packet-is-last-kinds.ps packet-is-last-kinds.r) κs) → packet-is-last-reads.Post κs a r s → packet-is-last-reads.Post κs a r′ s′ → r ≡ r′
+one-packet-is-last κs a r r′ s s′ h h′ = one h h′
+
+pub one-packet-checksum : (κs : Lifetimes.Lfts 1) (a : World.ArgsD packet-checksum.signature κs) (r r′ : World.ResD packet-checksum.signature κs)
+    (s s′ : Clauses.AtExit (K.endedOf 1 packet-checksum-kinds.ps packet-checksum-kinds.r) κs) → packet-checksum-reads.Post κs a r s → packet-checksum-reads.Post κs a r′ s′ → r ≡ r′
+one-packet-checksum κs a r r′ s s′ h h′ = one h h′
+
+pub one-program-read-command : (κs : Lifetimes.Lfts 1) (a : World.ArgsD program-read-command.signature κs) (r r′ : World.ResD program-read-command.signature κs)
+    (s s′ : Clauses.AtExit (K.endedOf 1 program-read-command-kinds.ps program-read-command-kinds.r) κs) → program-read-command-reads.Post κs a r s → program-read-command-reads.Post κs a r′ s′ → r ≡ r′
+one-program-read-command κs a r r′ s s′ h h′ = one h h′
+
+pub one-program-width : (κs : Lifetimes.Lfts 1) (a : World.ArgsD program-width.signature κs) (r r′ : World.ResD program-width.signature κs)
+    (s s′ : Clauses.AtExit (K.endedOf 1 program-width-kinds.ps program-width-kinds.r) κs) → program-width-reads.Post κs a r s → program-width-reads.Post κs a r′ s′ → r ≡ r′
+one-program-width κs a r r′ s s′ h h′ = one h h′
+
+pub one-program-fits : (κs : Lifetimes.Lfts 0) (a : World.ArgsD program-fits.signature κs) (r r′ : World.ResD program-fits.signature κs)
+    (s s′ : Clauses.AtExit (K.endedOf 0 program-fits-kinds.ps program-fits-kinds.r) κs) → program-fits-reads.Post κs a r s → program-fits-reads.Post κs a r′ s′ → r ≡ r′
+one-program-fits κs a r r′ s s′ h h′ = one h h′
+
+pub one-program-start-column : (κs : Lifetimes.Lfts 0) (a : World.ArgsD program-start-column.signature κs) (r r′ : World.ResD program-start-column.signature κs)
+    (s s′ : Clauses.AtExit (K.endedOf 0 program-start-column-kinds.ps program-start-column-kinds.r) κs) → program-start-column-reads.Post κs a r s → program-start-column-reads.Post κs a r′ s′ → r ≡ r′
+one-program-start-column κs a r r′ s s′ h h′ = one h h′
+
+pub one-judge-judge : (κs : Lifetimes.Lfts 1) (a : World.ArgsD judge-judge.signature κs) (r r′ : World.ResD judge-judge.signature κs)
+    (s s′ : Clauses.AtExit (K.endedOf 1 judge-judge-kinds.ps judge-judge-kinds.r) κs) → judge-judge-reads.Post κs a r s → judge-judge-reads.Post κs a r′ s′ → r ≡ r′
+one-judge-judge κs a r r′ s s′ h h′ = one h h′
+
+pub one-judge-stand : (κs : Lifetimes.Lfts 1) (a : World.ArgsD judge-stand.signature κs) (r r′ : World.ResD judge-stand.signature κs)
+    (s s′ : Clauses.AtExit (K.endedOf 1 judge-stand-kinds.ps judge-stand-kinds.r) κs) → judge-stand-reads.Post κs a r s → judge-stand-reads.Post κs a r′ s′ → r ≡ r′
+one-judge-stand κs a r r′ s s′ h h′ = one h h′
+
+pub one-judge-role-of : (κs : Lifetimes.Lfts 0) (a : World.ArgsD judge-role-of.signature κs) (r r′ : World.ResD judge-role-of.signature κs)
+    (s s′ : Clauses.AtExit (K.endedOf 0 judge-role-of-kinds.ps judge-role-of-kinds.r) κs) → judge-role-of-reads.Post κs a r s → judge-role-of-reads.Post κs a r′ s′ → r ≡ r′
+one-judge-role-of κs a r r′ s s′ h h′ = one h h′
+
+pub one-perform-perform : (κs : Lifetimes.Lfts 0) (a : World.ArgsD perform-perform.signature κs) (r r′ : World.ResD perform-perform.signature κs)
+    (s s′ : Clauses.AtExit (K.endedOf 0 perform-perform-kinds.ps perform-perform-kinds.r) κs) → perform-perform-reads.Post κs a r s → perform-perform-reads.Post κs a r′ s′ → r ≡ r′
+one-perform-perform κs a r r′ s s′ h h′ = one h h′
+
+pub one-perform-settings-Settings-sound : (κs : Lifetimes.Lfts 0) (a : World.ArgsD perform-settings-Settings-sound.signature κs) (r r′ : World.ResD perform-settings-Settings-sound.signature κs)
+    (s s′ : Clauses.AtExit (K.endedOf 0 perform-settings-Settings-sound-kinds.ps perform-settings-Settings-sound-kinds.r) κs) → perform-settings-Settings-sound-reads.Post κs a r s → perform-settings-Settings-sound-reads.Post κs a r′ s′ → r ≡ r′
+one-perform-settings-Settings-sound κs a r r′ s s′ h h′ = one h h′
+
+pub one-perform-settings-Settings-behind : (κs : Lifetimes.Lfts 0) (a : World.ArgsD perform-settings-Settings-behind.signature κs) (r r′ : World.ResD perform-settings-Settings-behind.signature κs)
+    (s s′ : Clauses.AtExit (K.endedOf 0 perform-settings-Settings-behind-kinds.ps perform-settings-Settings-behind-kinds.r) κs) → perform-settings-Settings-behind-reads.Post κs a r s → perform-settings-Settings-behind-reads.Post κs a r′ s′ → r ≡ r′
+one-perform-settings-Settings-behind κs a r r′ s s′ h h′ = one h h′
+
+pub one-machine-Run-step : (κs : Lifetimes.Lfts 0) (a : World.ArgsD machine-Run-step.signature κs) (r r′ : World.ResD machine-Run-step.signature κs)
+    (s s′ : Clauses.AtExit (K.endedOf 0 machine-Run-step-kinds.ps machine-Run-step-kinds.r) κs) → machine-Run-step-reads.Post κs a r s → machine-Run-step-reads.Post κs a r′ s′ → r ≡ r′
+one-machine-Run-step κs a r r′ s s′ h h′ = one h h′
+
+pub one-machine-Run-sound : (κs : Lifetimes.Lfts 0) (a : World.ArgsD machine-Run-sound.signature κs) (r r′ : World.ResD machine-Run-sound.signature κs)
+    (s s′ : Clauses.AtExit (K.endedOf 0 machine-Run-sound-kinds.ps machine-Run-sound-kinds.r) κs) → machine-Run-sound-reads.Post κs a r s → machine-Run-sound-reads.Post κs a r′ s′ → r ≡ r′
+one-machine-Run-sound κs a r r′ s s′ h h′ = one h h′
+
+pub one-machine-forecast : (κs : Lifetimes.Lfts 1) (a : World.ArgsD machine-forecast.signature κs) (r r′ : World.ResD machine-forecast.signature κs)
+    (s s′ : Clauses.AtExit (K.endedOf 1 machine-forecast-kinds.ps machine-forecast-kinds.r) κs) → machine-forecast-reads.Post κs a r s → machine-forecast-reads.Post κs a r′ s′ → r ≡ r′
+one-machine-forecast κs a r r′ s s′ h h′ = one h h′
+
+pub one-machine-totals-Totals-none : (κs : Lifetimes.Lfts 0) (a : World.ArgsD machine-totals-Totals-none.signature κs) (r r′ : World.ResD machine-totals-Totals-none.signature κs)
+    (s s′ : Clauses.AtExit (K.endedOf 0 machine-totals-Totals-none-kinds.ps machine-totals-Totals-none-kinds.r) κs) → machine-totals-Totals-none-reads.Post κs a r s → machine-totals-Totals-none-reads.Post κs a r′ s′ → r ≡ r′
+one-machine-totals-Totals-none κs a r r′ s s′ h h′ = one h h′
+
+pub one-machine-totals-Totals-cost : (κs : Lifetimes.Lfts 0) (a : World.ArgsD machine-totals-Totals-cost.signature κs) (r r′ : World.ResD machine-totals-Totals-cost.signature κs)
+    (s s′ : Clauses.AtExit (K.endedOf 0 machine-totals-Totals-cost-kinds.ps machine-totals-Totals-cost-kinds.r) κs) → machine-totals-Totals-cost-reads.Post κs a r s → machine-totals-Totals-cost-reads.Post κs a r′ s′ → r ≡ r′
+one-machine-totals-Totals-cost κs a r r′ s s′ h h′ = one h h′
+
+pub one-machine-totals-Totals-plus : (κs : Lifetimes.Lfts 0) (a : World.ArgsD machine-totals-Totals-plus.signature κs) (r r′ : World.ResD machine-totals-Totals-plus.signature κs)
+    (s s′ : Clauses.AtExit (K.endedOf 0 machine-totals-Totals-plus-kinds.ps machine-totals-Totals-plus-kinds.r) κs) → machine-totals-Totals-plus-reads.Post κs a r s → machine-totals-Totals-plus-reads.Post κs a r′ s′ → r ≡ r′
+one-machine-totals-Totals-plus κs a r r′ s s′ h h′ = one h h′
+
+pub one-machine-totals-Totals-times : (κs : Lifetimes.Lfts 0) (a : World.ArgsD machine-totals-Totals-times.signature κs) (r r′ : World.ResD machine-totals-Totals-times.signature κs)
+    (s s′ : Clauses.AtExit (K.endedOf 0 machine-totals-Totals-times-kinds.ps machine-totals-Totals-times-kinds.r) κs) → machine-totals-Totals-times-reads.Post κs a r s → machine-totals-Totals-times-reads.Post κs a r′ s′ → r ≡ r′
+one-machine-totals-Totals-times κs a r r′ s s′ h h′ = one h h′
+
+pub one-units-Steps-add : (κs : Lifetimes.Lfts 0) (a : World.ArgsD units-Steps-add.signature κs) (r r′ : World.ResD units-Steps-add.signature κs)
+    (s s′ : Clauses.AtExit (K.endedOf 0 units-Steps-add-kinds.ps units-Steps-add-kinds.r) κs) → units-Steps-add-reads.Post κs a r s → units-Steps-add-reads.Post κs a r′ s′ → r .0 ≡ r′ .0
+one-units-Steps-add κs a r r′ s s′ h h′ = one h h′
+
+pub one-units-Steps-times : (κs : Lifetimes.Lfts 0) (a : World.ArgsD units-Steps-times.signature κs) (r r′ : World.ResD units-Steps-times.signature κs)
+    (s s′ : Clauses.AtExit (K.endedOf 0 units-Steps-times-kinds.ps units-Steps-times-kinds.r) κs) → units-Steps-times-reads.Post κs a r s → units-Steps-times-reads.Post κs a r′ s′ → r .0 ≡ r′ .0
+one-units-Steps-times κs a r r′ s s′ h h′ = one h h′
+
+pub one-units-Shifts-add : (κs : Lifetimes.Lfts 0) (a : World.ArgsD units-Shifts-add.signature κs) (r r′ : World.ResD units-Shifts-add.signature κs)
+    (s s′ : Clauses.AtExit (K.endedOf 0 units-Shifts-add-kinds.ps units-Shifts-add-kinds.r) κs) → units-Shifts-add-reads.Post κs a r s → units-Shifts-add-reads.Post κs a r′ s′ → r .0 ≡ r′ .0
+one-units-Shifts-add κs a r r′ s s′ h h′ = one h h′
+
+pub one-units-Shifts-scans : (κs : Lifetimes.Lfts 0) (a : World.ArgsD units-Shifts-scans.signature κs) (r r′ : World.ResD units-Shifts-scans.signature κs)
+    (s s′ : Clauses.AtExit (K.endedOf 0 units-Shifts-scans-kinds.ps units-Shifts-scans-kinds.r) κs) → units-Shifts-scans-reads.Post κs a r s → units-Shifts-scans-reads.Post κs a r′ s′ → r .0 ≡ r′ .0
+one-units-Shifts-scans κs a r r′ s s′ h h′ = one h h′
+
+pub one-units-Scans-add : (κs : Lifetimes.Lfts 0) (a : World.ArgsD units-Scans-add.signature κs) (r r′ : World.ResD units-Scans-add.signature κs)
+    (s s′ : Clauses.AtExit (K.endedOf 0 units-Scans-add-kinds.ps units-Scans-add-kinds.r) κs) → units-Scans-add-reads.Post κs a r s → units-Scans-add-reads.Post κs a r′ s′ → r .0 ≡ r′ .0
+one-units-Scans-add κs a r r′ s s′ h h′ = one h h′
+
+pub one-units-Scans-times : (κs : Lifetimes.Lfts 0) (a : World.ArgsD units-Scans-times.signature κs) (r r′ : World.ResD units-Scans-times.signature κs)
+    (s s′ : Clauses.AtExit (K.endedOf 0 units-Scans-times-kinds.ps units-Scans-times-kinds.r) κs) → units-Scans-times-reads.Post κs a r s → units-Scans-times-reads.Post κs a r′ s′ → r .0 ≡ r′ .0
+one-units-Scans-times κs a r r′ s s′ h h′ = one h h′
+
+pub one-units-Scans-millis : (κs : Lifetimes.Lfts 0) (a : World.ArgsD units-Scans-millis.signature κs) (r r′ : World.ResD units-Scans-millis.signature κs)
+    (s s′ : Clauses.AtExit (K.endedOf 0 units-Scans-millis-kinds.ps units-Scans-millis-kinds.r) κs) → units-Scans-millis-reads.Post κs a r s → units-Scans-millis-reads.Post κs a r′ s′ → r .0 ≡ r′ .0
+one-units-Scans-millis κs a r r′ s s′ h h′ = one h h′
+
+pub one-units-Millis-add : (κs : Lifetimes.Lfts 0) (a : World.ArgsD units-Millis-add.signature κs) (r r′ : World.ResD units-Millis-add.signature κs)
+    (s s′ : Clauses.AtExit (K.endedOf 0 units-Millis-add-kinds.ps units-Millis-add-kinds.r) κs) → units-Millis-add-reads.Post κs a r s → units-Millis-add-reads.Post κs a r′ s′ → r .0 ≡ r′ .0
+one-units-Millis-add κs a r r′ s s′ h h′ = one h h′
+
+pub one-units-Millis-times : (κs : Lifetimes.Lfts 0) (a : World.ArgsD units-Millis-times.signature κs) (r r′ : World.ResD units-Millis-times.signature κs)
+    (s s′ : Clauses.AtExit (K.endedOf 0 units-Millis-times-kinds.ps units-Millis-times-kinds.r) κs) → units-Millis-times-reads.Post κs a r s → units-Millis-times-reads.Post κs a r′ s′ → r .0 ≡ r′ .0
+one-units-Millis-times κs a r r′ s s′ h h′ = one h h′
+
+pub one-units-Millis-tenths : (κs : Lifetimes.Lfts 0) (a : World.ArgsD units-Millis-tenths.signature κs) (r r′ : World.ResD units-Millis-tenths.signature κs)
+    (s s′ : Clauses.AtExit (K.endedOf 0 units-Millis-tenths-kinds.ps units-Millis-tenths-kinds.r) κs) → units-Millis-tenths-reads.Post κs a r s → units-Millis-tenths-reads.Post κs a r′ s′ → r .0 ≡ r′ .0
+one-units-Millis-tenths κs a r r′ s s′ h h′ = one h h′

@@ -1,0 +1,147 @@
+use Rattle.basis.proofs.Tests.{tests}
+-- `slots` tests slot after slot: what is left of them decides.
+use borrow.Author.Needs.{needs}
+use Rattle.collect.proofs.Turns.{rule-most, slot-cut, slot-wrong, slot-unclean, slot-next, slots-past}
+use Rattle.collect.specs.Slots.{slotsOf}
+use borrow.Author.Tests.{not-true, not-false}
+use lib.ListN.{length, getD, drop}
+use native.Mathlib.Omega.{arith}
+use Prim.Native.Nat.{_-_, _*_, _≤_}
+use mathlib.Core.Path.{_≡_, refl, sym, ap, _∙_}
+use Rattle.collect.proofs.Collection.slots.Statement.{statement}
+use Rattle.collect.proofs.Collection.slots.Tie as tie
+
+abbrev Inv-loop : tie.InvT-loop
+Inv-loop total lens room i₀ i = (i ≤ 6) × (slotsOf total i (drop i lens) (drop (14 * i) room) ≡ slotsOf total 0 lens room)
+
+abbrev μ-loop : tie.MeasureT-loop
+μ-loop total lens room i₀ i = 6 - i
+
+loop-holds : tie.Need-loop-holds Inv-loop μ-loop
+loop-holds c = search needs
+
+array-read-len : tie.Need-array-read-len Inv-loop μ-loop
+array-read-len c = search needs
+
+rule-requires : tie.Need-rule-requires Inv-loop μ-loop
+rule-requires c κs = search needs
+
+returns : tie.Need-returns Inv-loop μ-loop
+returns c =
+    let a = c .before .before .before .before .before .before .args .self in
+    let l = c .before .before .before .loop in
+    let s : length (a .lens) ≡ 6 = search needs in
+    let len = getD (a .lens) (l .i) 0 in
+    sym (slot-wrong (a .total) (a .lens) (a .room) (l .i) (omega arith) (sym (c .before .rule .ensures) ∙ not-true _ (c .if1 .taken))) ∙ l .inv .1
+
+mul-from : tie.Need-mul-from Inv-loop μ-loop
+mul-from c = search needs
+
+cast-from : tie.Need-cast-from Inv-loop μ-loop
+cast-from c = search needs
+
+add-from : tie.Need-add-from Inv-loop μ-loop
+add-from c =
+    let a = c .before .before .before .before .before .before .args .self in
+    let l = c .before .before .before .loop in
+    let s : length (a .lens) ≡ 6 = search needs in
+    let len = getD (a .lens) (l .i) 0 in
+    let most : len ≤ 14 = rule-most (a .total) (l .i) len (sym (c .before .rule .ensures) ∙ not-false _ (c .if1 .left)) in
+    omega arith
+
+mul-to : tie.Need-mul-to Inv-loop μ-loop
+mul-to c = search needs
+
+add-to : tie.Need-add-to Inv-loop μ-loop
+add-to c = search needs
+
+sub-zeros : tie.Need-sub-zeros Inv-loop μ-loop
+sub-zeros c =
+    let a = c .before .before .before .before .before .before .args .self in
+    let l = c .before .before .before .loop in
+    let s : length (a .lens) ≡ 6 = search needs in
+    let len = getD (a .lens) (l .i) 0 in
+    let most : len ≤ 14 = rule-most (a .total) (l .i) len (sym (c .before .rule .ensures) ∙ not-false _ (c .if1 .left)) in
+    omega arith
+
+part-zeros-start : tie.Need-part-zeros-start Inv-loop μ-loop
+part-zeros-start c =
+    let a = c .before .before .before .before .before .before .before .args .self in
+    let l = c .before .before .before .before .loop in
+    let s : length (a .lens) ≡ 6 = search needs in
+    let len = getD (a .lens) (l .i) 0 in
+    let most : len ≤ 14 = rule-most (a .total) (l .i) len (sym (c .before .before .rule .ensures) ∙ not-false _ (c .before .if1 .left)) in
+    omega arith
+
+part-zeros-end : tie.Need-part-zeros-end Inv-loop μ-loop
+part-zeros-end c =
+    let a = c .before .before .before .before .before .before .before .args .self in
+    let l = c .before .before .before .before .loop in
+    let s : length (a .lens) ≡ 6 = search needs in
+    let len = getD (a .lens) (l .i) 0 in
+    let r : length (a .room) ≡ 84 = search needs in
+    omega arith
+
+zeros-requires : tie.Need-zeros-requires Inv-loop μ-loop
+zeros-requires c κs = search needs
+
+returns-2 : tie.Need-returns-2 Inv-loop μ-loop
+returns-2 c =
+    let a = c .before .before .before .before .before .before .before .before .before .before .args .self in
+    let l = c .before .before .before .before .before .before .before .loop in
+    let s : length (a .lens) ≡ 6 = search needs in
+    let len = getD (a .lens) (l .i) 0 in
+    let right = sym (c .before .before .before .before .before .rule .ensures) ∙ not-false _ (c .before .before .before .before .if1 .left) in
+    let most : len ≤ 14 = rule-most (a .total) (l .i) len right in
+    let found = slot-cut (a .room) (l .i) len most ∙ sym (c .before .zeros .ensures) ∙ not-true _ (c .if2 .taken) in
+    sym (slot-unclean (a .total) (a .lens) (a .room) (l .i) (omega arith) right found) ∙ l .inv .1
+
+add-i : tie.Need-add-i Inv-loop μ-loop
+add-i c = search needs
+
+loop-less : tie.Need-loop-less Inv-loop μ-loop
+loop-less c = search needs
+
+loop-again : tie.Need-loop-again Inv-loop μ-loop
+loop-again c =
+    let a = c .before .before .before .before .before .before .before .before .before .before .args .self in
+    let l = c .before .before .before .before .before .before .before .loop in
+    let s : length (a .lens) ≡ 6 = search needs in
+    let len = getD (a .lens) (l .i) 0 in
+    let right = sym (c .before .before .before .before .before .rule .ensures) ∙ not-false _ (c .before .before .before .before .if1 .left) in
+    let most : len ≤ 14 = rule-most (a .total) (l .i) len right in
+    let found = slot-cut (a .room) (l .i) len most ∙ sym (c .before .zeros .ensures) ∙ not-false _ (c .if2 .left) in
+    (omega arith, sym (slot-next (a .total) (a .lens) (a .room) (l .i) (omega arith) right found) ∙ l .inv .1)
+
+returns-3 : tie.Need-returns-3 Inv-loop μ-loop
+returns-3 c =
+    let a = c .before .before .before .before .args .self in
+    let l = c .before .loop in
+    let s : length (a .lens) ≡ 6 = search needs in
+    let len = getD (a .lens) (l .i) 0 in
+    sym (slots-past (a .total) (a .lens) (a .room) (l .i) (omega arith)) ∙ l .inv .1
+
+pub slots-spec : {M : Type 1} → statement M
+slots-spec =
+    tie.close
+    (tie.spec
+    Inv-loop
+    μ-loop
+    loop-holds
+    array-read-len
+    rule-requires
+    returns
+    mul-from
+    cast-from
+    add-from
+    mul-to
+    add-to
+    sub-zeros
+    part-zeros-start
+    part-zeros-end
+    zeros-requires
+    returns-2
+    add-i
+    loop-less
+    loop-again
+    returns-3)

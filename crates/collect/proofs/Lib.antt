@@ -1,0 +1,5 @@
+pub mod Equal
+pub mod Joined
+pub mod Kept
+pub mod Rooms
+pub mod Turns

@@ -1,0 +1,105 @@
+-- Slots one by one: what the loops over them go by.
+use Prim.Native.Nat.{ℕ, zero, suc, _+_, _-_, _*_, _≤_, _<_}
+use mathlib.Core.List.{List, [], _∷_, _++_}
+use mathlib.Core.Bool.{Bool, true, false}
+use mathlib.Core.Path.{_≡_, refl, sym, ap, _∙_}
+use native.Mathlib.Numerals.{add-one}
+use native.Mathlib.Omega.{arith}
+use lib.Dec.{eqb, ltb, leb}
+use lib.ListN.{length, getD, take, drop, drop-of-length-le}
+use lib.Seq.{drop-cons, drop-drop}
+use borrow.Author.Tests.{leb-true, eqb-true}
+use Rattle.basis.specs.Choice.{when, _and_, _or_}
+use Rattle.machine.specs.Sound.{zerosOf}
+use Rattle.collect.specs.Slots.{ruleOf, oneOf, heldOf, slotsOf}
+
+-- no slot holds more than 14 bytes
+pub rule-most : (total position len : ℕ) → ruleOf total position len ≡ true → len ≤ 14
+rule-most total position len e = go (leb total position) (leb (total - position) 1) (eqb len 0) (eqb len 14) refl refl e
+  where
+    go : (a b z f : Bool) → eqb len 0 ≡ z → eqb len 14 ≡ f → when a z (when b (leb len 14) (z or f)) ≡ true → len ≤ 14
+    go true b z f ez ef w = omega (arith, eqb-true len 0 (ez ∙ w))
+    go false true z f ez ef w = leb-true len 14 w
+    go false false true f ez ef w = omega (arith, eqb-true len 0 ez)
+    go false false false f ez ef w = omega (arith, eqb-true len 14 (ef ∙ w))
+
+-- what is left of the slots from a position on is the slot there and what is left behind it
+pub slots-at : (total : ℕ) (lens room : List ℕ) (i : ℕ) → i < length lens
+    → slotsOf total i (drop i lens) (drop (14 * i) room)
+    ≡ ruleOf total i (getD lens i 0)
+    and zerosOf (take (14 - getD lens i 0) (drop (14 * i + getD lens i 0) room))
+    and slotsOf total (i + 1) (drop (i + 1) lens) (drop (14 * (i + 1)) room)
+unfolding slotsOf
+slots-at total lens room i h =
+    let len = getD lens i 0 in
+    let behind : 14 * i + 14 ≡ 14 * (i + 1) = omega arith in
+    let rest : drop 14 (drop (14 * i) room) ≡ drop (14 * (i + 1)) room = drop-drop 14 (14 * i) room ∙ ap (λ (n : ℕ). drop n room) behind in
+    let first : drop i lens ≡ len ∷ drop (i + 1) lens = rw (add-one i, drop-cons lens i 0) in
+    ap (λ (l : List ℕ). slotsOf total i l (drop (14 * i) room)) first
+    ∙ ap
+    (λ (d : List ℕ).
+    ruleOf total i len and zerosOf (take (14 - len) d) and slotsOf total (i + 1) (drop (i + 1) lens) (drop 14 (drop (14 * i) room)))
+    (drop-drop len (14 * i) room)
+    ∙ ap
+    (λ (d : List ℕ).
+    ruleOf total i len and zerosOf (take (14 - len) (drop (14 * i + len) room)) and slotsOf total (i + 1) (drop (i + 1) lens) d)
+    rest
+
+module _ (total : ℕ) (lens room : List ℕ) (i : ℕ) (within : i < length lens) where
+  pub slot-wrong : ruleOf total i (getD lens i 0) ≡ false → slotsOf total i (drop i lens) (drop (14 * i) room) ≡ false
+  slot-wrong e =
+      slots-at total lens room i within
+      ∙ ap
+      (λ (t : Bool).
+      t
+      and zerosOf (take (14 - getD lens i 0) (drop (14 * i + getD lens i 0) room))
+      and slotsOf total (i + 1) (drop (i + 1) lens) (drop (14 * (i + 1)) room))
+      e
+
+  module _ (right : ruleOf total i (getD lens i 0) ≡ true) where
+    right-slot : slotsOf total i (drop i lens) (drop (14 * i) room)
+        ≡ zerosOf (take (14 - getD lens i 0) (drop (14 * i + getD lens i 0) room))
+        and slotsOf total (i + 1) (drop (i + 1) lens) (drop (14 * (i + 1)) room)
+    right-slot =
+        slots-at total lens room i within
+        ∙ ap
+        (λ (t : Bool).
+        t
+        and zerosOf (take (14 - getD lens i 0) (drop (14 * i + getD lens i 0) room))
+        and slotsOf total (i + 1) (drop (i + 1) lens) (drop (14 * (i + 1)) room))
+        right
+
+    pub slot-unclean : zerosOf (take (14 - getD lens i 0) (drop (14 * i + getD lens i 0) room)) ≡ false
+        → slotsOf total i (drop i lens) (drop (14 * i) room) ≡ false
+    slot-unclean e = right-slot ∙ ap (λ (t : Bool). t and slotsOf total (i + 1) (drop (i + 1) lens) (drop (14 * (i + 1)) room)) e
+
+    pub slot-next : zerosOf (take (14 - getD lens i 0) (drop (14 * i + getD lens i 0) room)) ≡ true
+        → slotsOf total i (drop i lens) (drop (14 * i) room) ≡ slotsOf total (i + 1) (drop (i + 1) lens) (drop (14 * (i + 1)) room)
+    slot-next e = right-slot ∙ ap (λ (t : Bool). t and slotsOf total (i + 1) (drop (i + 1) lens) (drop (14 * (i + 1)) room)) e
+
+pub slots-past : (total : ℕ) (lens room : List ℕ) (i : ℕ) → length lens ≤ i → slotsOf total i (drop i lens) (drop (14 * i) room) ≡ true
+unfolding slotsOf
+slots-past total lens room i h = ap (λ (l : List ℕ). slotsOf total i l (drop (14 * i) room)) (drop-of-length-le lens h)
+
+-- the positions held from one on
+pub held-next : (lens : List ℕ) (i : ℕ) → i < length lens → heldOf (drop i lens) ≡ oneOf (getD lens i 0) + heldOf (drop (i + 1) lens)
+unfolding heldOf
+held-next lens i h = rw (add-one i, drop-cons lens i 0)
+
+pub held-past : (lens : List ℕ) (i : ℕ) → length lens ≤ i → heldOf (drop i lens) ≡ 0
+unfolding heldOf
+held-past lens i h = rw (drop-of-length-le lens h)
+
+pub one-most : (len : ℕ) → oneOf len ≤ 1
+one-most len = go (eqb len 0)
+  where
+    go : (t : Bool) → when t 0 1 ≤ 1
+    go true = omega arith
+    go false = omega arith
+
+-- the room behind a slot's data, as the code lends it
+pub slot-cut : (room : List ℕ) (i len : ℕ) → len ≤ 14
+    → zerosOf (take (14 - len) (drop (14 * i + len) room)) ≡ zerosOf (take (14 * i + 14 - (14 * i + len)) (drop (14 * i + len) room))
+slot-cut room i len h =
+    let e : 14 - len ≡ 14 * i + 14 - (14 * i + len) = omega arith in
+    ap (λ (n : ℕ). zerosOf (take n (drop (14 * i + len) room))) e

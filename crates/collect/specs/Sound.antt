@@ -1,0 +1,23 @@
+-- Which collections are sound, one rule for each part.
+-- 01: "the collected packets obey the packet rules, are of one total, at least one and not all there, and their ID isn't the last
+-- completed; unused room holds zeros".
+use Prim.Native.Nat.{ℕ}
+use mathlib.Core.Bool.{Bool, not}
+use lib.Dec.{eqb, ltb, leb}
+use Rattle.basis.specs.Choice.{when, _and_}
+use Rattle.collect.specs.Slots.{heldOf, slotsOf}
+use Rattle.collect.specs.declared.Collection.{Collection}
+
+-- the ID is one of a packet with data, and isn't the last completed
+abbrev pub idOf : ℕ → Collection → Bool
+idOf last c = not (ltb 0x3F (c .id)) and not (eqb (c .id) last)
+
+-- at least one and not all there
+abbrev pub someOf : Collection → Bool
+someOf c = not (eqb (heldOf (c .lens)) 0) and not (leb (c .total) (heldOf (c .lens)))
+
+-- none collected: no ID; otherwise the ID, the total and the count are right; and the slots in either case
+unfoldable pub soundOf : ℕ → Collection → Bool
+soundOf last c =
+    when (eqb (c .total) 0) (eqb (c .id) 0) (idOf last c and not (ltb 6 (c .total)) and someOf c)
+    and slotsOf (c .total) 0 (c .lens) (c .room)

@@ -1,0 +1,115 @@
+// Which collections are sound. Answers to 01's last paragraph of "Numbers for no": "the collected packets obey the packet rules, are
+// of one total, at least one and not all there, and their ID isn't the last completed; unused room holds zeros".
+use crate::Collection;
+ghost use mathlib.Core.Path.{_≡_};
+ghost use Rattle.machine.specs.Sound.{zerosOf};
+ghost use Rattle.collect.specs.Slots.{ruleOf, oneOf, heldOf, slotsOf};
+ghost use Rattle.collect.specs.Sound.{soundOf};
+
+// Whether all bytes are 0.
+fn zeros(bytes: &[u8]) -> bool
+    ensures { λ r. ⌜ r ≡ zerosOf (now (bytes .entry)) ⌝ }
+{
+    let mut i = 0;
+    while i < bytes.len() {
+        if bytes[i] != 0 {
+            return false;
+        }
+        i += 1;
+    }
+    true
+}
+
+// Whether a packet of this length may be held at a position; 0 is none.
+fn rule(total: u8, position: usize, len: u8) -> bool
+    ensures { λ r. ⌜ r ≡ ruleOf total position len ⌝ }
+{
+    let count = total as usize;
+    if count <= position {
+        return len == 0;
+    }
+    if count - position <= 1 {
+        return len <= 14;
+    }
+    if len == 0 {
+        return true;
+    }
+    len == 14
+}
+
+// 1 for a position that is held.
+fn one(len: u8) -> usize
+    ensures { λ r. ⌜ r ≡ oneOf len ⌝ }
+{
+    if len == 0 { 0 } else { 1 }
+}
+
+// How many positions are held.
+pub fn held(lens: [u8; 6]) -> usize
+    ensures { λ r. ⌜ r ≡ heldOf lens ⌝ }
+{
+    let mut n = 0;
+    let mut i = 0;
+    while i < 6 {
+        n += one(lens[i]);
+        i += 1;
+    }
+    n
+}
+
+impl Collection {
+    // Whether each slot obeys the packet rules, with zeros behind its data.
+    fn slots(self) -> bool
+        ensures { λ r. ⌜ r ≡ slotsOf (self .total) 0 (self .lens) (self .room) ⌝ }
+    {
+        let total = self.total;
+        let lens = self.lens;
+        let room = self.room;
+        let mut i = 0;
+        while i < 6 {
+            let len = lens[i];
+            if !rule(total, i, len) {
+                return false;
+            }
+            let from = 14 * i + len as usize;
+            let to = 14 * i + 14;
+            if !zeros(&room[from..to]) {
+                return false;
+            }
+            i += 1;
+        }
+        true
+    }
+
+    // Whether the collection is sound beside this last completed ID.
+    pub fn sound(self, last: u8) -> bool
+        ensures { λ r. ⌜ r ≡ soundOf last self ⌝ }
+    {
+        let id = self.id;
+        let total = self.total;
+        let lens = self.lens;
+        if total == 0 {
+            if id != 0 {
+                return false;
+            }
+            return self.slots();
+        }
+        if 0x3f < id {
+            return false;
+        }
+        if id == last {
+            return false;
+        }
+        if 6 < total {
+            return false;
+        }
+        let count = held(lens);
+        if count == 0 {
+            return false;
+        }
+        if total as usize <= count {
+            return false;
+        }
+        self.slots()
+    }
+}

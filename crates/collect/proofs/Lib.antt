@@ -2,4 +2,5 @@ pub mod Equal
 pub mod Joined
 pub mod Kept
 pub mod Rooms
+pub mod Sounds
 pub mod Turns

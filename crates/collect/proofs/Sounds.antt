@@ -1,0 +1,90 @@
+-- The parts of a sound collection, and a sound collection made of them.
+use Prim.Native.Nat.{ℕ, zero, suc, _+_, _-_, _≤_, _<_}
+use mathlib.Core.List.{List, [], _∷_}
+use mathlib.Core.Bool.{Bool, true, false, not}
+use mathlib.Core.Path.{_≡_, refl, sym, ap, _∙_}
+use native.Mathlib.Omega.{arith}
+use lib.Dec.{eqb, ltb, leb}
+use lib.ListN.{length, getD, drop, replicate}
+use borrow.Author.Tests.{ltb-false, leb-false, eqb-false, eq-eqb, ne-eqb, le-ltb, lt-leb, not-true}
+use Rattle.basis.specs.Choice.{when, _and_, _or_}
+use Rattle.basis.proofs.Choices.{and-parts, and-true, when-false}
+use Rattle.collect.specs.Slots.{ruleOf, heldOf, slotsOf, begunOf, noneOf}
+use Rattle.collect.specs.Sound.{idOf, someOf, soundOf}
+use Rattle.collect.specs.declared.Collection.{Collection}
+use Rattle.collect.proofs.Turns.{rule-most}
+use Rattle.collect.proofs.Joined.{first}
+
+-- what holds of a collection that isn't none
+pub record Collecting (last : ℕ) (c : Collection) : Type 0 where
+  pub known : c .id ≤ 0x3F
+  pub other : c .id ≡ last → ⊥
+  pub most : c .total ≤ 6
+  pub some : heldOf (c .lens) ≡ 0 → ⊥
+  pub missing : heldOf (c .lens) < c .total
+
+unequal : (a b : ℕ) → not (eqb a b) ≡ true → a ≡ b → ⊥
+unequal a b e = eqb-false a b (not-true (eqb a b) e)
+
+pub sound-slots : (last : ℕ) (c : Collection) → soundOf last c ≡ true → slotsOf (c .total) 0 (c .lens) (c .room) ≡ true
+unfolding soundOf
+sound-slots last c e =
+    and-parts (when (eqb (c .total) 0) (eqb (c .id) 0) (idOf last c and not (ltb 6 (c .total)) and someOf c)) (slotsOf (c .total) 0 (c .lens) (c .room)) e .1
+
+pub sound-collecting : (last : ℕ) (c : Collection) → (c .total ≡ 0 → ⊥) → soundOf last c ≡ true → Collecting last c
+unfolding soundOf
+sound-collecting last c busy e =
+    let h = heldOf (c .lens) in
+    let p = and-parts (when (eqb (c .total) 0) (eqb (c .id) 0) (idOf last c and not (ltb 6 (c .total)) and someOf c)) (slotsOf (c .total) 0 (c .lens) (c .room)) e .0 in
+    let q = sym (when-false (eqb (c .total) 0) (eqb (c .id) 0) (idOf last c and not (ltb 6 (c .total)) and someOf c) (ne-eqb (c .total) 0 busy)) ∙ p in
+    let a = and-parts (idOf last c) (not (ltb 6 (c .total)) and someOf c) q in
+    let i = and-parts (not (ltb 0x3F (c .id))) (not (eqb (c .id) last)) (a .0) in
+    let t = and-parts (not (ltb 6 (c .total))) (someOf c) (a .1) in
+    let s = and-parts (not (eqb h 0)) (not (leb (c .total) h)) (t .1) in
+    record {
+      known = ltb-false 0x3F (c .id) (not-true (ltb 0x3F (c .id)) (i .0));
+      other = unequal (c .id) last (i .1);
+      most = ltb-false 6 (c .total) (not-true (ltb 6 (c .total)) (t .0));
+      some = unequal h 0 (s .0);
+      missing = leb-false (c .total) h (not-true (leb (c .total) h) (s .1));
+    }
+
+pub collecting-sound : (last : ℕ) (c : Collection) → (c .total ≡ 0 → ⊥) → Collecting last c
+    → slotsOf (c .total) 0 (c .lens) (c .room) ≡ true → soundOf last c ≡ true
+unfolding soundOf
+collecting-sound last c busy p slots =
+    let h = heldOf (c .lens) in
+    let i : idOf last c ≡ true = and-true (not (ltb 0x3F (c .id))) (not (eqb (c .id) last)) (ap not (le-ltb 0x3F (c .id) (p .known))) (ap not (ne-eqb (c .id) last (p .other))) in
+    let s : someOf c ≡ true = and-true (not (eqb h 0)) (not (leb (c .total) h)) (ap not (ne-eqb h 0 (p .some))) (ap not (lt-leb (c .total) h (p .missing))) in
+    let t : not (ltb 6 (c .total)) ≡ true = ap not (le-ltb 6 (c .total) (p .most)) in
+    let all = and-true (idOf last c) (not (ltb 6 (c .total)) and someOf c) i (and-true (not (ltb 6 (c .total))) (someOf c) t s) in
+    and-true _ _ (when-false (eqb (c .total) 0) (eqb (c .id) 0) (idOf last c and not (ltb 6 (c .total)) and someOf c) (ne-eqb (c .total) 0 busy) ∙ all) slots
+
+-- an empty slot obeys the rules everywhere
+rule-none : (total position : ℕ) → ruleOf total position 0 ≡ true
+rule-none total position = go (leb total position) (leb (total - position) 1)
+  where
+    go : (a b : Bool) → when a true (when b true true) ≡ true
+    go true b = refl
+    go false true = refl
+    go false false = refl
+
+-- so does a collection that holds nothing yet
+pub begun-slots : (id total : ℕ) → slotsOf total 0 (begunOf id total .lens) (begunOf id total .room) ≡ true
+unfolding slotsOf begunOf
+begun-slots id total =
+    and-true _ _ (rule-none total 0)
+    (and-true _ _ (rule-none total 1)
+    (and-true _ _ (rule-none total 2)
+    (and-true _ _ (rule-none total 3) (and-true _ _ (rule-none total 4) (and-true _ _ (rule-none total 5) refl)))))
+
+-- none collected is sound
+pub none-sound : (last : ℕ) → soundOf last noneOf ≡ true
+unfolding soundOf slotsOf begunOf
+none-sound last = refl
+
+-- no slot holds more than 14 bytes
+pub slots-most : (total position : ℕ) (lens room : List ℕ) (i : ℕ) → slotsOf total position lens room ≡ true → getD lens i 0 ≤ 14
+slots-most total position [] room i e = omega arith
+slots-most total position (len ∷ lens) room zero e = rule-most total position len (first total position len lens room e .rule)
+slots-most total position (len ∷ lens) room (suc i) e = slots-most total (position + 1) lens (drop 14 room) i (first total position len lens room e .rest)

@@ -1,0 +1,7 @@
+pub mod Joining
+pub mod Packets
+pub mod Places
+pub mod Sounds
+pub mod Stepping
+pub mod Stretches
+pub mod Tells

@@ -1,0 +1,52 @@
+-- Bytes off the line, judged in 01's order: 16, the reader's numbers 1 to 11, query, reset, then the joining of a normal packet.
+use Prim.Native.Nat.{ℕ}
+use mathlib.Core.List.{List}
+use lib.ListN.{take, drop}
+use Rattle.basis.specs.Choice.{when}
+use Rattle.judge.specs.Verdict.{noOf, noAt}
+use Rattle.packet.specs.Read.{readOf}
+use Rattle.packet.specs.declared.read.Reading.{Reading}
+use Rattle.packet.specs.declared.read.Reading.the-variants.{Query as QueryRead, Reset as ResetRead, Normal, Refused as Unread}
+use Rattle.sign.specs.Sound.{soundOf}
+use Rattle.sign.specs.Reset.{resetOf}
+use Rattle.sign.specs.Join.{staysOf, joinOf}
+use Rattle.sign.specs.declared.Sign.{Sign}
+use Rattle.sign.specs.declared.Received.{Received}
+use Rattle.sign.specs.declared.Outcome.{Outcome}
+use Rattle.sign.specs.declared.Outcome.the-variants.{Query, Reset, Repeat, Stored, Released, Refused}
+
+-- what was read decides; the data of a normal packet stand at bytes 5 to 5 + len
+abbrev pub heardOf : Sign → List ℕ → Reading → Received
+heardOf s b QueryRead = staysOf s Query
+heardOf s b ResetRead = staysOf (resetOf s) Reset
+heardOf s b (Normal id total position len) = joinOf s id total position (take len (drop 5 b))
+heardOf s b (Unread n) = staysOf s (Refused n)
+
+unfoldable pub receiveOf : Sign → ℕ → List ℕ → Received
+receiveOf s mid b = when (soundOf s) (heardOf s b (readOf mid b)) (staysOf s (Refused 16))
+
+-- an outcome in 01's words: the number for no, 0 for yes
+abbrev pub numberOf : Outcome → ℕ
+numberOf Query = 0
+numberOf Reset = 0
+numberOf Repeat = 0
+numberOf Stored = 0
+numberOf (Released v) = 0
+numberOf (Refused n) = n
+
+-- the program's refusal that a Released names, 0 where the body is accepted, and its place
+abbrev pub programOf : Outcome → ℕ
+programOf Query = 0
+programOf Reset = 0
+programOf Repeat = 0
+programOf Stored = 0
+programOf (Released v) = noOf v
+programOf (Refused n) = 0
+
+abbrev pub placeOf : Outcome → ℕ
+placeOf Query = 0
+placeOf Reset = 0
+placeOf Repeat = 0
+placeOf Stored = 0
+placeOf (Released v) = noAt v
+placeOf (Refused n) = 0

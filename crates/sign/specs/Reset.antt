@@ -1,0 +1,32 @@
+-- Power-on and reset.
+-- 01: "Reset drops collection and body and sets Ready, pace 4, one scan, AUX floating, last ID 41h; dim threshold and forced brightness
+-- stay. Power-on is the same with threshold 16 and no forced brightness." 16: "unsound record, before all else in calls that take one".
+use Prim.Native.Nat.{ℕ}
+use mathlib.Core.Bool.{false}
+use Rattle.basis.specs.Choice.{when}
+use Rattle.perform.specs.declared.settings.Settings.{Settings}
+use Rattle.collect.specs.Slots.{noneOf}
+use Rattle.machine.specs.Step.{readyOf}
+use Rattle.sign.specs.Sound.{soundOf}
+use Rattle.sign.specs.declared.Sign.{Sign}
+use Rattle.sign.specs.declared.Cleared.{Cleared}
+use Rattle.sign.specs.declared.Outcome.the-variants.{Reset, Refused}
+
+-- pace 4, one scan, AUX floating
+abbrev pub startSettings : ℕ → ℕ → Settings
+startSettings dim bright = record { pace = 4; scans = 1; sink = false; dim = dim; bright = bright }
+
+-- nothing collected, no body, last ID 41h
+unfoldable pub freshOf : ℕ → ℕ → Sign
+freshOf dim bright = record { last = 0x41; collection = noneOf; run = readyOf (startSettings dim bright) }
+
+-- dim threshold and forced brightness stay
+abbrev pub resetOf : Sign → Sign
+resetOf s = freshOf (s .run .settings .dim) (s .run .settings .bright)
+
+abbrev pub powerOn : Sign
+powerOn = freshOf 16 0
+
+-- the call: 16, or the reset
+unfoldable pub clearedOf : Sign → Cleared
+clearedOf s = when (soundOf s) (record { sign = resetOf s; outcome = Reset }) (record { sign = s; outcome = Refused 16 })

@@ -1,0 +1,23 @@
+-- What the sign tells: its reply to a query, and its running body.
+-- 01: "The sign answers a query with 8 bytes: .. last ID, `R` or `B`, `S` or `F` as the caller says the AUX pin reads"; 16, then 34.
+use Prim.Native.Nat.{ℕ}
+use mathlib.Core.List.{List, [], _∷_}
+use mathlib.Core.Bool.{Bool, not}
+use lib.Dec.{eqb}
+use Rattle.basis.specs.Rows.{Row, _if_}
+use Rattle.packet.specs.Wire.{replyOf}
+use Rattle.packet.specs.Write.{shortBy}
+use Rattle.sign.specs.Sound.{soundOf}
+use Rattle.sign.specs.declared.Sign.{Sign}
+
+-- Busy is to have a body
+abbrev pub busyOf : Sign → Bool
+busyOf s = not (eqb (s .run .len) 0)
+
+-- the reply: AUX is the caller's, not the record's drive
+abbrev pub saysOf : Sign → ℕ → Bool → List ℕ
+saysOf s mid aux = replyOf mid (s .last) (busyOf s) aux
+
+-- the refusals of a call that lays these bytes into the buffer
+abbrev pub toldRows : Sign → List ℕ → List ℕ → List Row
+toldRows s bytes out = 16 if not (soundOf s) ∷ shortBy bytes out ∷ []

@@ -1,0 +1,63 @@
+// Power-on and reset. Answers to 01: "Reset drops collection and body and sets Ready, pace 4, one scan, AUX floating, last ID 41h; dim
+// threshold and forced brightness stay. Power-on is the same with threshold 16 and no forced brightness."
+use crate::Cleared;
+use crate::Outcome;
+use crate::Sign;
+use collect::begun;
+use machine::Loop;
+use machine::Run;
+use perform::Settings;
+ghost use mathlib.Core.Path.{_≡_};
+ghost use Rattle.sign.specs.Reset.{freshOf, clearedOf, powerOn};
+
+// The record that a reset leaves where threshold and brightness are these.
+pub(crate) fn fresh(dim: u8, bright: u8) -> Sign
+    ensures { λ r. ⌜ r ≡ freshOf dim bright ⌝ }
+{
+    let settings = Settings {
+        pace: 4,
+        scans: 1,
+        sink: false,
+        dim,
+        bright,
+    };
+    let run = Run {
+        body: [0; 84],
+        len: 0,
+        place: 0,
+        inner: Loop { place: 0, left: 0 },
+        settings,
+    };
+    let collection = begun(0, 0);
+    Sign {
+        last: 0x41,
+        collection,
+        run,
+    }
+}
+
+impl Sign {
+    // The record of a sign that was just switched on.
+    pub fn power_on() -> Sign
+        ensures { λ r. ⌜ r ≡ powerOn ⌝ }
+    {
+        fresh(16, 0)
+    }
+
+    // The record behind a reset; 16 for an unsound one.
+    pub fn reset(self) -> Cleared
+        ensures { λ r. ⌜ r ≡ clearedOf self ⌝ }
+    {
+        if !self.sound() {
+            return Cleared {
+                sign: self,
+                outcome: Outcome::Refused(16),
+            };
+        }
+        let settings = self.run.settings;
+        Cleared {
+            sign: fresh(settings.dim, settings.bright),
+            outcome: Outcome::Reset,
+        }
+    }
+}

@@ -1,0 +1,39 @@
+// What the sign tells: the reply to a query, and the running body for the driver. Answers to 01: "The sign answers a query with 8
+// bytes", "One call copies the running body (none when Ready) into a lent buffer and tells its length; bytes behind it stay", and to 16 and 34.
+use crate::Sign;
+use packet::Written;
+use packet::write_reply;
+ghost use mathlib.Core.Path.{_≡_};
+ghost use Rattle.machine.specs.Sound.{bodyOf};
+ghost use Rattle.packet.specs.Write.{Writes};
+ghost use Rattle.sign.specs.Tell.{busyOf, saysOf, toldRows};
+
+impl Sign {
+    // Lays the reply to a query, with the AUX pin as the caller reads it.
+    pub fn reply(self, mid: u8, aux: bool, out: &mut [u8]) -> Written
+        ensures { λ r. ⌜ Writes (toldRows self (saysOf self mid aux) (now (out .entry))) (saysOf self mid aux) (now (out .entry)) r (now (out .exit)) ⌝ }
+    {
+        if !self.sound() {
+            return Written::Refused(16);
+        }
+        let busy = self.run.len != 0;
+        write_reply(mid, self.last, busy, aux, out)
+    }
+
+    // Copies the running body to the buffer's front, and tells its length.
+    pub fn copy_body(self, out: &mut [u8]) -> Written
+        ensures { λ r. ⌜ Writes (toldRows self (bodyOf (self .run)) (now (out .entry))) (bodyOf (self .run)) (now (out .entry)) r (now (out .exit)) ⌝ }
+    {
+        if !self.sound() {
+            return Written::Refused(16);
+        }
+        let run = self.run;
+        let body = run.body;
+        let len = run.len;
+        if out.len() < len {
+            return Written::Refused(34);
+        }
+        bytes::copy(&body[..len], out);
+        Written::Wrote(len)
+    }
+}

@@ -1,4 +1,7 @@
+pub mod Deliveries
+pub mod Driver
 pub mod Joining
+pub mod Keeps
 pub mod Packets
 pub mod Places
 pub mod Sounds

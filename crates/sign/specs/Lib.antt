@@ -1,3 +1,5 @@
+pub mod Delivery
+pub mod Driver
 pub mod Join
 pub mod Receive
 pub mod Repeat

@@ -1,0 +1,172 @@
+-- A query, a repeat and a refusal leave the record (demand 1), and a Busy record is left by all bytes but a reset for this MID: so
+-- what comes between the steps of a running line changes none of them.
+use Prim.Native.Nat.{ℕ, zero, suc}
+use mathlib.Core.List.{List, [], _∷_}
+use mathlib.Core.Bool.{Bool, true, false, not}
+use mathlib.Core.Path.{_≡_, refl, sym, ap, _∙_, subst}
+use native.Mathlib.Omega.{arith}
+use lib.Dec.{eqb, leb}
+use lib.ListN.{length, getD, take, drop}
+use borrow.Author.Tests.{ne-eqb, eqb-true, eqb-false}
+use Rattle.basis.specs.Choice.{when, _or_}
+use Rattle.basis.proofs.Choices.{when-true, when-false}
+use Rattle.collect.specs.Slots.{heldOf, begunOf, sameOf, storedOf}
+use Rattle.collect.specs.declared.Collection.{Collection}
+use Rattle.packet.specs.Read.{readOf}
+use Rattle.packet.specs.declared.read.Reading.{Reading}
+use Rattle.packet.specs.declared.read.Reading.the-variants.{Query as QueryRead, Reset as ResetRead, Normal, Refused as Unread}
+use Rattle.judge.specs.Token.{get}
+use Rattle.course.specs.Steps.{Said, did, idle, at, saidOf}
+use Rattle.machine.specs.Step.{framesOf, sayOf, stepOf as runStep}
+use Rattle.machine.specs.Sound.{bodyOf, soundOf as runSound}
+use Rattle.machine.specs.declared.Answer.{Answer}
+use Rattle.machine.specs.declared.Answer.the-variants.{Did, Idle, Refused as Stopped}
+use Rattle.sign.specs.Sound.{soundOf}
+use Rattle.sign.specs.Reset.{resetOf, clearedOf}
+use Rattle.sign.specs.Join.{staysOf, storesOf, releaseOf, releasedOf, countedOf, placedOf, slotOf, goesOn, joinOf}
+use Rattle.sign.specs.Receive.{heardOf, receiveOf}
+use Rattle.sign.specs.Step.{stepOf}
+use Rattle.sign.specs.Driver.{movesOf, Event, step, bytes, afterEvents, saidEvents, afterSteps, saidSteps, stepsIn, Undisturbed}
+use Rattle.sign.specs.declared.Sign.{Sign}
+use Rattle.sign.specs.declared.Received.{Received}
+use Rattle.sign.specs.declared.Cleared.{Cleared}
+use Rattle.sign.specs.declared.Stepped.{Stepped}
+use Rattle.sign.specs.declared.Outcome.{Outcome}
+use Rattle.sign.specs.declared.Outcome.the-variants.{Query, Reset, Repeat, Stored, Released, Refused}
+use Rattle.machine.specs.declared.Stepped.{Stepped as RunStepped}
+use Rattle.machine.proofs.Keeps.{step-ready, step-busy}
+use Rattle.sign.proofs.Joining.{sound-receives, unsound-receives}
+use Rattle.sign.proofs.Sounds.{sound-parts}
+use Rattle.sign.proofs.Stepping.{sound-steps, unsound-steps}
+
+-- where the outcome doesn't move, the record is the one before
+abbrev Still : Sign → Received → Type 0
+Still s r = movesOf (r .outcome) ≡ false → r .sign ≡ s
+
+moved : {A : Type 0} → true ≡ false → A
+moved e = let z : _≡_ {A = ℕ} 0 1 = cc in absurd (omega arith)
+
+stays-still : (s : Sign) (o : Outcome) → Still s (staysOf s o)
+unfolding staysOf
+stays-still s o e = refl
+
+counted-still : (s : Sign) (c : Collection) (t : Bool) → Still s (when t (releasedOf s c) (storesOf s c))
+unfolding staysOf releaseOf
+counted-still s c true e = moved e
+counted-still s c false e = moved e
+
+join-still : (s : Sign) (id total position : ℕ) (part : List ℕ) → Still s (joinOf s id total position part)
+unfolding joinOf
+join-still s id total position part =
+    go (eqb id (s .last)) (eqb (s .run .len) 0) (eqb (s .collection .total) 0 or not (eqb (s .collection .id) id)) (eqb (s .collection .total) total)
+    (eqb (getD (s .collection .lens) position 0) 0)
+    (sameOf (slotOf (s .collection) position) part)
+  where
+    placed-still : (c : Collection) → Still s (placedOf s c position part)
+    placed-still c = counted-still s (storedOf c position part) (leb (storedOf c position part .total) (heldOf (storedOf c position part .lens)))
+
+    go : (t u v w x y : Bool)
+        → Still s
+        (when t (staysOf s Repeat)
+        (when (not u) (staysOf s (Refused 12))
+        (when v (placedOf s (begunOf id total) position part)
+        (when (not w) (staysOf s (Refused 13)) (when x (placedOf s (s .collection) position part) (when y (staysOf s Repeat) (staysOf s (Refused 13))))))))
+    go true u v w x y = stays-still s Repeat
+    go false false v w x y = stays-still s (Refused 12)
+    go false true true w x y = placed-still (begunOf id total)
+    go false true false false x y = stays-still s (Refused 13)
+    go false true false true true y = placed-still (s .collection)
+    go false true false true false true = stays-still s Repeat
+    go false true false true false false = stays-still s (Refused 13)
+
+heard-still : (s : Sign) (b : List ℕ) (r : Reading) → Still s (heardOf s b r)
+unfolding staysOf
+heard-still s b QueryRead = stays-still s Query
+heard-still s b ResetRead = λ e. moved e
+heard-still s b (Normal id total position len) = join-still s id total position (take len (drop 5 b))
+heard-still s b (Unread n) = stays-still s (Refused n)
+
+-- a query, a repeat and a refusal leave the record, sound or not
+pub receive-still : (s : Sign) (mid : ℕ) (b : List ℕ) → movesOf (receiveOf s mid b .outcome) ≡ false → receiveOf s mid b .sign ≡ s
+receive-still s mid b = go (soundOf s) refl
+  where
+    go : (t : Bool) → soundOf s ≡ t → Still s (receiveOf s mid b)
+    go true e = subst (λ (r : Received). Still s r) (sym (sound-receives s mid b e)) (heard-still s b (readOf mid b))
+    go false e = subst (λ (r : Received). Still s r) (sym (unsound-receives s mid b e)) (stays-still s (Refused 16))
+
+-- a Busy record is left by every packet that isn't a reset
+busy-join : (s : Sign) (id total position : ℕ) (part : List ℕ) → (s .run .len ≡ 0 → ⊥) → joinOf s id total position part .sign ≡ s
+unfolding joinOf staysOf
+busy-join s id total position part busy = go (eqb id (s .last)) (eqb (s .run .len) 0) (ne-eqb (s .run .len) 0 busy)
+  where
+    go : (t u : Bool) → u ≡ false
+        → (when t (staysOf s Repeat)
+        (when (not u) (staysOf s (Refused 12))
+        (when (eqb (s .collection .total) 0 or not (eqb (s .collection .id) id)) (placedOf s (begunOf id total) position part) (goesOn s total position part)))
+        .sign)
+        ≡ s
+    go true u e = refl
+    go false false e = refl
+    go false true e = moved e
+
+pub busy-stays : (s : Sign) (mid : ℕ) (b : List ℕ) → (s .run .len ≡ 0 → ⊥) → (readOf mid b ≡ ResetRead → ⊥) → receiveOf s mid b .sign ≡ s
+unfolding staysOf
+busy-stays s mid b busy other = go (soundOf s) refl
+  where
+    heard : (r : Reading) → readOf mid b ≡ r → heardOf s b r .sign ≡ s
+    heard QueryRead e = refl
+    heard ResetRead e = absurd (other e)
+    heard (Normal id total position len) e = busy-join s id total position (take len (drop 5 b)) busy
+    heard (Unread n) e = refl
+
+    go : (t : Bool) → soundOf s ≡ t → receiveOf s mid b .sign ≡ s
+    go true e = ap (λ (r : Received). r .sign) (sound-receives s mid b e) ∙ heard (readOf mid b) refl
+    go false e = ap (λ (r : Received). r .sign) (unsound-receives s mid b e)
+
+-- the steps of a running line, whatever comes between them, are the steps alone
+pub driver-after : (mid : ℕ) (es : List Event) (s : Sign) → Undisturbed mid es s → afterEvents mid es s ≡ afterSteps (stepsIn es) s
+driver-after mid [] s u = refl
+driver-after mid (step ∷ es) s u = driver-after mid es (stepOf s .sign) u
+driver-after mid (bytes b ∷ es) s u =
+    ap (afterEvents mid es) (busy-stays s mid b (u .0) (u .1 .0)) ∙ driver-after mid es s (u .1 .1)
+
+pub driver-said : (mid : ℕ) (es : List Event) (s : Sign) → Undisturbed mid es s → saidEvents mid es s ≡ saidSteps (stepsIn es) s
+driver-said mid [] s u = refl
+driver-said mid (step ∷ es) s u = ap (λ (xs : List Answer). stepOf s .answer ∷ xs) (driver-said mid es (stepOf s .sign) u)
+driver-said mid (bytes b ∷ es) s u = ap (saidEvents mid es) (busy-stays s mid b (u .0) (u .1 .0)) ∙ driver-said mid es s (u .1 .1)
+
+-- a refused step leaves the record: only an unsound one is refused
+pub step-still : (s : Sign) (n : ℕ) → stepOf s .answer ≡ Stopped n → stepOf s .sign ≡ s
+step-still s n h = go (soundOf s) refl
+  where
+    said : (x : Said) → sayOf x ≡ Stopped n → stepOf s .sign ≡ s
+    said (did x) e = let z : _≡_ {A = ℕ} 0 1 = cc in absurd (omega arith)
+    said idle e = let z : _≡_ {A = ℕ} 0 1 = cc in absurd (omega arith)
+
+    go : (t : Bool) → soundOf s ≡ t → stepOf s .sign ≡ s
+    go false e = ap (λ (x : Stepped). x .sign) (unsound-steps s e)
+    go true e = ran (eqb (s .run .len) 0) refl
+      where
+        run : runSound (s .run) ≡ true
+        run = sound-parts s e .run
+
+        answer : runStep (s .run) .answer ≡ Stopped n
+        answer = sym (ap (λ (x : Stepped). x .answer) (sound-steps s e)) ∙ h
+
+        ran : (t : Bool) → eqb (s .run .len) 0 ≡ t → stepOf s .sign ≡ s
+        ran true q = said idle (sym (ap (λ (x : RunStepped). x .answer) (step-ready (s .run) run (eqb-true (s .run .len) 0 q))) ∙ answer)
+        ran false q =
+            said (saidOf (get (bodyOf (s .run))) (at (s .run .place) (framesOf (s .run .inner)) (s .run .settings)))
+            (sym (ap (λ (x : RunStepped). x .answer) (step-busy (s .run) run (eqb-false (s .run .len) 0 q))) ∙ answer)
+
+-- and so does a refused reset
+pub reset-still : (s : Sign) (n : ℕ) → clearedOf s .outcome ≡ Refused n → clearedOf s .sign ≡ s
+unfolding clearedOf
+reset-still s n h = go (soundOf s) h
+  where
+    whether : Bool → Cleared
+    whether t = when t (record { sign = resetOf s; outcome = Reset }) (record { sign = s; outcome = Refused 16 })
+
+    go : (t : Bool) → whether t .outcome ≡ Refused n → whether t .sign ≡ s
+    go false e = refl
+    go true e = let z : _≡_ {A = ℕ} 0 1 = cc in absurd (omega arith)

@@ -1,0 +1,45 @@
+-- The packets of a body received in order (demand 2).
+use Prim.Native.Nat.{ℕ, zero, suc, _<_}
+use mathlib.Core.List.{List}
+use mathlib.Core.Path.{_≡_}
+use mathlib.Core.Bool.{Bool, true}
+use lib.ListN.{take}
+use Rattle.packet.specs.Wire.{totalOf, packetAt}
+use Rattle.judge.specs.Verdict.{judgeOf}
+use Rattle.judge.specs.Grammar.{acceptedAs}
+use Rattle.judge.specs.declared.Verdict.the-variants.{Refused as NoProgram}
+use Rattle.collect.specs.Slots.{noneOf}
+use Rattle.machine.specs.Step.{startedOf}
+use Rattle.sign.specs.Join.{staysOf, beginsOf}
+use Rattle.sign.specs.Receive.{receiveOf}
+use Rattle.sign.specs.declared.Sign.{Sign}
+use Rattle.sign.specs.declared.Received.{Received}
+use Rattle.sign.specs.declared.Outcome.the-variants.{Stored, Released}
+
+-- the record behind the first packets of a body
+abbrev pub afterPackets : Sign → ℕ → ℕ → List ℕ → ℕ → Sign
+afterPackets s mid id body zero = s
+afterPackets s mid id body (suc n) = receiveOf (afterPackets s mid id body n) mid (packetAt mid id body n) .sign
+
+-- what the packet at a position is answered, behind those before it
+abbrev pub answerTo : Sign → ℕ → ℕ → List ℕ → ℕ → Received
+answerTo s mid id body p = receiveOf (afterPackets s mid id body p) mid (packetAt mid id body p)
+
+-- the sign is Ready, doesn't collect that ID and hasn't it as last
+pub record Awaits (s : Sign) (id : ℕ) : Type 0 where
+  pub ready : s .run .len ≡ 0
+  pub other : id ≡ s .last → ⊥
+  pub begins : beginsOf (s .collection) id ≡ true
+
+-- the packets of a body are delivered: all but the last are Stored, with no body; the last is Released, with the same bytes
+pub record Delivered (s : Sign) (mid id : ℕ) (body : List ℕ) : Type 0 where
+  pub stored : (p : ℕ) → suc p < totalOf body → answerTo s mid id body p ≡ staysOf (afterPackets s mid id body (suc p)) Stored
+  pub released : (p : ℕ) → suc p ≡ totalOf body → answerTo s mid id body p .outcome ≡ Released (judgeOf body)
+  pub same : (p : ℕ) → suc p ≡ totalOf body → take (answerTo s mid id body p .len) (answerTo s mid id body p .body) ≡ body
+  -- the record then has that ID as last and collects nothing
+  pub last : (p : ℕ) → suc p ≡ totalOf body → answerTo s mid id body p .sign .last ≡ id
+  pub none : (p : ℕ) → suc p ≡ totalOf body → answerTo s mid id body p .sign .collection ≡ noneOf
+  -- it runs an accepted body from its first command, with the settings it had, and with another it stays Ready
+  pub runs : (p : ℕ) → suc p ≡ totalOf body → (endless : Bool) → judgeOf body ≡ acceptedAs endless
+      → answerTo s mid id body p .sign .run ≡ startedOf body (s .run .settings)
+  pub rests : (p : ℕ) → suc p ≡ totalOf body → (n place : ℕ) → judgeOf body ≡ NoProgram n place → answerTo s mid id body p .sign .run ≡ s .run

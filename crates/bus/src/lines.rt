@@ -1,0 +1,130 @@
+// The lines of the input, each taken apart and done to the sign.
+use crate::show::cleared;
+use crate::show::copied;
+use crate::show::received;
+use crate::show::repeated;
+use crate::show::replied;
+use crate::show::stepped;
+use sign::Sign;
+ghost use Prim.Native.Nat.{_≤_, _<_};
+ghost use lib.ListN.{length};
+
+// The value of a hexadecimal digit in upper case; 0 of any other byte.
+fn digit(x: u8) -> u8
+    ensures { λ r. ⌜ r ≤ 15 ⌝ }
+{
+    if x < b'0' {
+        return 0;
+    }
+    if x <= b'9' {
+        return x - b'0';
+    }
+    if x < b'A' {
+        return 0;
+    }
+    if b'F' < x {
+        return 0;
+    }
+    x - b'A' + 10
+}
+
+// The byte that two digits write.
+fn pair(high: u8, low: u8) -> u8 {
+    digit(high) * 16 + digit(low)
+}
+
+// The bytes that a line writes behind its first two, laid into a buffer, and how many they are.
+fn decode(text: &[u8], out: &mut [u8]) -> usize
+    ensures { λ r. ⌜ r ≤ length (now (out .exit)) ⌝ }
+{
+    let mut at: usize = 3;
+    let mut n: usize = 0;
+    while n < out.len() {
+        if text.len() <= at {
+            return n;
+        }
+        if 16384 <= at {
+            return n;
+        }
+        out[n] = pair(text[at - 1], text[at]);
+        at += 2;
+        n += 1;
+    }
+    n
+}
+
+// The first bytes of a buffer come off the line.
+fn heard(sign: Sign, bytes: &[u8], n: usize) -> Sign {
+    if bytes.len() < n {
+        return sign;
+    }
+    received(sign.receive(0x80, &bytes[..n]))
+}
+
+// The bytes that a line writes come off the line.
+fn line_received(sign: Sign, text: &[u8]) -> Sign {
+    let mut bytes = [0u8; 32];
+    let n = decode(text, &mut bytes);
+    heard(sign, &bytes, n)
+}
+
+// One thing done to the sign.
+fn done(sign: Sign, text: &[u8]) -> Sign {
+    if text.len() == 0 {
+        return sign;
+    }
+    let what = text[0];
+    if what == b'r' {
+        return line_received(sign, text);
+    }
+    if what == b's' {
+        return stepped(sign.step());
+    }
+    if what == b'z' {
+        return cleared(sign.reset());
+    }
+    if what == b'c' {
+        return copied(sign);
+    }
+    if what == b'F' {
+        return replied(sign, false);
+    }
+    if what == b'S' {
+        return replied(sign, true);
+    }
+    if what == b't' {
+        return repeated(sign, text);
+    }
+    if what == b'x' {
+        let mut ill = sign;
+        ill.last = 0x40;
+        return ill;
+    }
+    Sign::power_on()
+}
+
+// The next line end from a place on, or the end.
+fn line_end(text: &[u8], from: usize) -> usize
+    requires { ⌜ from < length (now text) ⌝ }
+    ensures { λ r. ⌜ (from ≤ r) × (r ≤ length (now (text .entry))) ⌝ }
+{
+    let mut at = from;
+    while at < text.len() {
+        if text[at] == b'\n' {
+            return at;
+        }
+        at += 1;
+    }
+    at
+}
+
+// All lines, from power-on.
+pub fn all(text: &[u8]) {
+    let mut sign = Sign::power_on();
+    let mut at: usize = 0;
+    while at < text.len() {
+        let end = line_end(text, at);
+        sign = done(sign, &text[at..end]);
+        at = end + 1;
+    }
+}

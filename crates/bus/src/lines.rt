@@ -119,7 +119,7 @@ fn line_end(text: &[u8], from: usize) -> usize
 }
 
 // All lines, from power-on.
-pub fn all(text: &[u8]) {
+pub(crate) fn all(text: &[u8]) {
     let mut sign = Sign::power_on();
     let mut at: usize = 0;
     while at < text.len() {

@@ -67,7 +67,7 @@ fn outcome(what: Outcome) {
 }
 
 // The outcome of a receive with the body that was released.
-pub fn received(got: Received) -> Sign {
+pub(crate) fn received(got: Received) -> Sign {
     let body = got.body;
     let len = got.len;
     let what = got.outcome;
@@ -78,7 +78,7 @@ pub fn received(got: Received) -> Sign {
 }
 
 // The outcome of a reset.
-pub fn cleared(got: Cleared) -> Sign {
+pub(crate) fn cleared(got: Cleared) -> Sign {
     let what = got.outcome;
     outcome(what);
     io::write_all(1, b"\n");
@@ -111,7 +111,7 @@ fn answered(answer: Answer) {
 }
 
 // A step's answer.
-pub fn stepped(went: Stepped) -> Sign {
+pub(crate) fn stepped(went: Stepped) -> Sign {
     let answer = went.answer;
     answered(answer);
     io::write_all(1, b"\n");
@@ -132,7 +132,7 @@ fn coded(bytes: &[u8]) {
 }
 
 // The reply, in hexadecimal.
-pub fn replied(sign: Sign, aux: bool) -> Sign {
+pub(crate) fn replied(sign: Sign, aux: bool) -> Sign {
     let mut out = [0u8; 8];
     let wrote = sign.reply(0x80, aux, &mut out);
     match wrote {
@@ -144,7 +144,7 @@ pub fn replied(sign: Sign, aux: bool) -> Sign {
 }
 
 // The running body, copied into a buffer of 20 bytes.
-pub fn copied(sign: Sign) -> Sign {
+pub(crate) fn copied(sign: Sign) -> Sign {
     let mut out = [0u8; 20];
     let wrote = sign.copy_body(&mut out);
     match wrote {
@@ -171,7 +171,7 @@ fn digit(x: u8) -> usize {
 }
 
 // What the repeater hands back of the body that a line gives, behind a place and a length of one digit each.
-pub fn repeated(sign: Sign, text: &[u8]) -> Sign {
+pub(crate) fn repeated(sign: Sign, text: &[u8]) -> Sign {
     if text.len() < 5 {
         return sign;
     }

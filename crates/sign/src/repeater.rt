@@ -1,11 +1,15 @@
 // The driver's repeater. Answers to 01: "It hands back that very stretch of the body, or the whole standing line where the place is 0
 // or the stretch doesn't lie within the body."
 ghost use mathlib.Core.Path.{_≡_};
-ghost use Rattle.sign.specs.Repeat.{repeatOf};
+ghost use Prim.Native.Nat.{_+_};
+ghost use Rattle.basis.specs.Choice.{when};
+ghost use Rattle.sign.specs.Repeat.{withinOf, repeatOf};
 
-// The stretch of the body at this place and of this length, or the whole standing line.
+// The stretch of the body at this place and of this length, or the whole standing line: that very memory, by block and offset.
 pub fn repeat<'a>(body: &'a [u8], place: usize, len: usize, standing: &'a [u8]) -> &'a [u8]
-    ensures { λ r. ⌜ now r ≡ repeatOf (now (body .entry)) place len (now (standing .entry)) ⌝ }
+    ensures bytes { λ r. ⌜ now r ≡ repeatOf (now (body .entry)) place len (now (standing .entry)) ⌝ }
+    ensures block { λ r. ⌜ r .ptr .0 ≡ when (withinOf (now (body .entry)) place len) (body .entry .ptr .0) (standing .entry .ptr .0) ⌝ }
+    ensures offset { λ r. ⌜ r .ptr .1 ≡ when (withinOf (now (body .entry)) place len) (place + body .entry .ptr .1) (standing .entry .ptr .1) ⌝ }
 {
     let count = body.len();
     if place == 0 {

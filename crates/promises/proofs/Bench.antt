@@ -13,9 +13,11 @@ use Rattle.judge.specs.Verdict.{judgeOf}
 use Rattle.judge.specs.declared.Verdict.the-variants.{Finite}
 use Rattle.course.proofs.Programs.{treeIn}
 use Rattle.machine.specs.Forecast.{settingsAt, forecastOf}
+use Rattle.machine.specs.Step.{readyOf}
 use Rattle.machine.specs.Totals.{pricesOf}
 use Rattle.machine.specs.declared.reckon.Foretold.the-variants.{Ends}
 use Rattle.machine.proofs.Forecasts.{in-range, settings-sound, tallies-price}
+use Rattle.sign.specs.Reset.{freshOf}
 use Rattle.promises.specs.Bench.{All, starred, costs, w5, l3w2e, shi, s, slow}
 
 -- a program that ends is foretold its price
@@ -25,7 +27,7 @@ foretold b e =
     in-range b 4 1 (omega arith) (omega arith) (omega arith) (omega arith) Finite e ∙ ap Ends (sym (tallies-price b e (settingsAt 4 1) set))
 
 pub all-starred : All starred
-unfolding sum packetOf replyOf readOf commandAt judgeOf answerOf
+unfolding sum packetOf replyOf readOf commandAt judgeOf answerOf readyOf freshOf
 all-starred = (
   refl,
   (

@@ -2,3 +2,4 @@ pub mod Bench
 pub mod Line
 pub mod Outcome
 pub mod Wire
+pub mod Record

@@ -114,6 +114,45 @@ use Rattle.units.proofs.Millis.times.Reads as units-Millis-times-reads
 use Rattle.units.proofs.Millis.tenths as units-Millis-tenths
 use Rattle.units.proofs.Millis.tenths.Kinds as units-Millis-tenths-kinds
 use Rattle.units.proofs.Millis.tenths.Reads as units-Millis-tenths-reads
+use Rattle.sign.proofs.Sign.power_on as sign-Sign-power-on
+use Rattle.sign.proofs.Sign.power_on.Kinds as sign-Sign-power-on-kinds
+use Rattle.sign.proofs.Sign.power_on.Reads as sign-Sign-power-on-reads
+use Rattle.sign.proofs.Sign.receive as sign-Sign-receive
+use Rattle.sign.proofs.Sign.receive.Kinds as sign-Sign-receive-kinds
+use Rattle.sign.proofs.Sign.receive.Reads as sign-Sign-receive-reads
+use Rattle.sign.proofs.Sign.reset as sign-Sign-reset
+use Rattle.sign.proofs.Sign.reset.Kinds as sign-Sign-reset-kinds
+use Rattle.sign.proofs.Sign.reset.Reads as sign-Sign-reset-reads
+use Rattle.sign.proofs.Sign.step as sign-Sign-step
+use Rattle.sign.proofs.Sign.step.Kinds as sign-Sign-step-kinds
+use Rattle.sign.proofs.Sign.step.Reads as sign-Sign-step-reads
+use Rattle.sign.proofs.Sign.sound as sign-Sign-sound
+use Rattle.sign.proofs.Sign.sound.Kinds as sign-Sign-sound-kinds
+use Rattle.sign.proofs.Sign.sound.Reads as sign-Sign-sound-reads
+use Rattle.sign.proofs.Sign.reply as sign-Sign-reply
+use Rattle.sign.proofs.Sign.reply.Kinds as sign-Sign-reply-kinds
+use Rattle.sign.proofs.Sign.reply.Reads as sign-Sign-reply-reads
+use Rattle.sign.proofs.Sign.copy_body as sign-Sign-copy-body
+use Rattle.sign.proofs.Sign.copy_body.Kinds as sign-Sign-copy-body-kinds
+use Rattle.sign.proofs.Sign.copy_body.Reads as sign-Sign-copy-body-reads
+use Rattle.collect.proofs.same as collect-same
+use Rattle.collect.proofs.same.Kinds as collect-same-kinds
+use Rattle.collect.proofs.same.Reads as collect-same-reads
+use Rattle.collect.proofs.begun as collect-begun
+use Rattle.collect.proofs.begun.Kinds as collect-begun-kinds
+use Rattle.collect.proofs.begun.Reads as collect-begun-reads
+use Rattle.collect.proofs.held as collect-held
+use Rattle.collect.proofs.held.Kinds as collect-held-kinds
+use Rattle.collect.proofs.held.Reads as collect-held-reads
+use Rattle.collect.proofs.Collection.stored as collect-Collection-stored
+use Rattle.collect.proofs.Collection.stored.Kinds as collect-Collection-stored-kinds
+use Rattle.collect.proofs.Collection.stored.Reads as collect-Collection-stored-reads
+use Rattle.collect.proofs.Collection.sound as collect-Collection-sound
+use Rattle.collect.proofs.Collection.sound.Kinds as collect-Collection-sound-kinds
+use Rattle.collect.proofs.Collection.sound.Reads as collect-Collection-sound-reads
+use Rattle.sign.proofs.repeat as sign-repeat
+use Rattle.sign.proofs.repeat.Kinds as sign-repeat-kinds
+use Rattle.sign.proofs.repeat.Reads as sign-repeat-reads
 
 -- two that are equal to a third are equal: all that is needed where a contract is an equation
 one : {A : Type 0} {x y z : A} → x ≡ z → y ≡ z → x ≡ y
@@ -267,3 +306,58 @@ one-units-Millis-times κs a r r′ s s′ h h′ = one h h′
 pub one-units-Millis-tenths : (κs : Lifetimes.Lfts 0) (a : World.ArgsD units-Millis-tenths.signature κs) (r r′ : World.ResD units-Millis-tenths.signature κs)
     (s s′ : Clauses.AtExit (K.endedOf 0 units-Millis-tenths-kinds.ps units-Millis-tenths-kinds.r) κs) → units-Millis-tenths-reads.Post κs a r s → units-Millis-tenths-reads.Post κs a r′ s′ → r .0 ≡ r′ .0
 one-units-Millis-tenths κs a r r′ s s′ h h′ = one h h′
+
+pub one-sign-Sign-power-on : (κs : Lifetimes.Lfts 0) (a : World.ArgsD sign-Sign-power-on.signature κs) (r r′ : World.ResD sign-Sign-power-on.signature κs)
+    (s s′ : Clauses.AtExit (K.endedOf 0 sign-Sign-power-on-kinds.ps sign-Sign-power-on-kinds.r) κs) → sign-Sign-power-on-reads.Post κs a r s → sign-Sign-power-on-reads.Post κs a r′ s′ → r ≡ r′
+one-sign-Sign-power-on κs a r r′ s s′ h h′ = one h h′
+
+pub one-sign-Sign-receive : (κs : Lifetimes.Lfts 1) (a : World.ArgsD sign-Sign-receive.signature κs) (r r′ : World.ResD sign-Sign-receive.signature κs)
+    (s s′ : Clauses.AtExit (K.endedOf 1 sign-Sign-receive-kinds.ps sign-Sign-receive-kinds.r) κs) → sign-Sign-receive-reads.Post κs a r s → sign-Sign-receive-reads.Post κs a r′ s′ → r ≡ r′
+one-sign-Sign-receive κs a r r′ s s′ h h′ = one h h′
+
+pub one-sign-Sign-reset : (κs : Lifetimes.Lfts 0) (a : World.ArgsD sign-Sign-reset.signature κs) (r r′ : World.ResD sign-Sign-reset.signature κs)
+    (s s′ : Clauses.AtExit (K.endedOf 0 sign-Sign-reset-kinds.ps sign-Sign-reset-kinds.r) κs) → sign-Sign-reset-reads.Post κs a r s → sign-Sign-reset-reads.Post κs a r′ s′ → r ≡ r′
+one-sign-Sign-reset κs a r r′ s s′ h h′ = one h h′
+
+pub one-sign-Sign-step : (κs : Lifetimes.Lfts 0) (a : World.ArgsD sign-Sign-step.signature κs) (r r′ : World.ResD sign-Sign-step.signature κs)
+    (s s′ : Clauses.AtExit (K.endedOf 0 sign-Sign-step-kinds.ps sign-Sign-step-kinds.r) κs) → sign-Sign-step-reads.Post κs a r s → sign-Sign-step-reads.Post κs a r′ s′ → r ≡ r′
+one-sign-Sign-step κs a r r′ s s′ h h′ = one h h′
+
+pub one-sign-Sign-sound : (κs : Lifetimes.Lfts 0) (a : World.ArgsD sign-Sign-sound.signature κs) (r r′ : World.ResD sign-Sign-sound.signature κs)
+    (s s′ : Clauses.AtExit (K.endedOf 0 sign-Sign-sound-kinds.ps sign-Sign-sound-kinds.r) κs) → sign-Sign-sound-reads.Post κs a r s → sign-Sign-sound-reads.Post κs a r′ s′ → r ≡ r′
+one-sign-Sign-sound κs a r r′ s s′ h h′ = one h h′
+
+pub one-sign-Sign-reply : (κs : Lifetimes.Lfts 1) (a : World.ArgsD sign-Sign-reply.signature κs) (r r′ : World.ResD sign-Sign-reply.signature κs)
+    (s s′ : Clauses.AtExit (K.endedOf 1 sign-Sign-reply-kinds.ps sign-Sign-reply-kinds.r) κs) → sign-Sign-reply-reads.Post κs a r s → sign-Sign-reply-reads.Post κs a r′ s′
+    → (r ≡ r′) × (now (s .1 .1 .1 .0) ≡ now (s′ .1 .1 .1 .0))
+one-sign-Sign-reply κs a r r′ s s′ h h′ = (one (h .answered) (h′ .answered), one (h .left) (h′ .left))
+
+pub one-sign-Sign-copy-body : (κs : Lifetimes.Lfts 1) (a : World.ArgsD sign-Sign-copy-body.signature κs) (r r′ : World.ResD sign-Sign-copy-body.signature κs)
+    (s s′ : Clauses.AtExit (K.endedOf 1 sign-Sign-copy-body-kinds.ps sign-Sign-copy-body-kinds.r) κs) → sign-Sign-copy-body-reads.Post κs a r s → sign-Sign-copy-body-reads.Post κs a r′ s′
+    → (r ≡ r′) × (now (s .1 .0) ≡ now (s′ .1 .0))
+one-sign-Sign-copy-body κs a r r′ s s′ h h′ = (one (h .answered) (h′ .answered), one (h .left) (h′ .left))
+
+pub one-collect-same : (κs : Lifetimes.Lfts 2) (a : World.ArgsD collect-same.signature κs) (r r′ : World.ResD collect-same.signature κs)
+    (s s′ : Clauses.AtExit (K.endedOf 2 collect-same-kinds.ps collect-same-kinds.r) κs) → collect-same-reads.Post κs a r s → collect-same-reads.Post κs a r′ s′ → r ≡ r′
+one-collect-same κs a r r′ s s′ h h′ = one h h′
+
+pub one-collect-begun : (κs : Lifetimes.Lfts 0) (a : World.ArgsD collect-begun.signature κs) (r r′ : World.ResD collect-begun.signature κs)
+    (s s′ : Clauses.AtExit (K.endedOf 0 collect-begun-kinds.ps collect-begun-kinds.r) κs) → collect-begun-reads.Post κs a r s → collect-begun-reads.Post κs a r′ s′ → r ≡ r′
+one-collect-begun κs a r r′ s s′ h h′ = one h h′
+
+pub one-collect-held : (κs : Lifetimes.Lfts 0) (a : World.ArgsD collect-held.signature κs) (r r′ : World.ResD collect-held.signature κs)
+    (s s′ : Clauses.AtExit (K.endedOf 0 collect-held-kinds.ps collect-held-kinds.r) κs) → collect-held-reads.Post κs a r s → collect-held-reads.Post κs a r′ s′ → r ≡ r′
+one-collect-held κs a r r′ s s′ h h′ = one h h′
+
+pub one-collect-Collection-stored : (κs : Lifetimes.Lfts 1) (a : World.ArgsD collect-Collection-stored.signature κs) (r r′ : World.ResD collect-Collection-stored.signature κs)
+    (s s′ : Clauses.AtExit (K.endedOf 1 collect-Collection-stored-kinds.ps collect-Collection-stored-kinds.r) κs) → collect-Collection-stored-reads.Post κs a r s → collect-Collection-stored-reads.Post κs a r′ s′ → r ≡ r′
+one-collect-Collection-stored κs a r r′ s s′ h h′ = one h h′
+
+pub one-collect-Collection-sound : (κs : Lifetimes.Lfts 0) (a : World.ArgsD collect-Collection-sound.signature κs) (r r′ : World.ResD collect-Collection-sound.signature κs)
+    (s s′ : Clauses.AtExit (K.endedOf 0 collect-Collection-sound-kinds.ps collect-Collection-sound-kinds.r) κs) → collect-Collection-sound-reads.Post κs a r s → collect-Collection-sound-reads.Post κs a r′ s′ → r ≡ r′
+one-collect-Collection-sound κs a r r′ s s′ h h′ = one h h′
+
+pub one-sign-repeat : (κs : Lifetimes.Lfts 1) (a : World.ArgsD sign-repeat.signature κs) (r r′ : World.ResD sign-repeat.signature κs)
+    (s s′ : Clauses.AtExit (K.endedOf 1 sign-repeat-kinds.ps sign-repeat-kinds.r) κs) → sign-repeat-reads.Post κs a r s → sign-repeat-reads.Post κs a r′ s′
+    → (now r ≡ now r′) × ((r .ptr .0 ≡ r′ .ptr .0) × (r .ptr .1 ≡ r′ .ptr .1))
+one-sign-repeat κs a r r′ s s′ h h′ = (one (h .0) (h′ .0), (one (h .1 .0) (h′ .1 .0), one (h .1 .1) (h′ .1 .1)))

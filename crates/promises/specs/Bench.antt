@@ -3,7 +3,7 @@ use Prim.Native.Nat.{ℕ}
 use mathlib.Core.Bool.{Bool, true, false}
 use mathlib.Core.List.{List, [], _∷_}
 use mathlib.Core.Path.{_≡_}
-use Rattle.packet.specs.Wire.{packetOf, queryOf, resetOf, replyOf}
+use Rattle.packet.specs.Wire.{packetOf, queryOf, resetOf}
 use Rattle.packet.specs.Read.{readOf}
 use Rattle.packet.specs.declared.read.Reading.{Reading}
 use Rattle.packet.specs.declared.read.Reading.the-variants.{Query, Reset, Normal, Refused}
@@ -14,6 +14,8 @@ use Rattle.machine.specs.Forecast.{forecastOf}
 use Rattle.machine.specs.Totals.{totalsOf}
 use Rattle.machine.specs.declared.reckon.Foretold.{Foretold}
 use Rattle.machine.specs.declared.reckon.Foretold.the-variants.{Ends}
+use Rattle.sign.specs.Reset.{powerOn}
+use Rattle.sign.specs.Tell.{saysOf}
 
 -- what an example says: bytes that a sign of a MID reads so, bytes that are the very packet or reply, a body that is judged so, a
 -- body that is foretold so at pace 4 and one scan
@@ -81,7 +83,7 @@ starred =
     ∷ reads 0x80 (packet 0x60) (Refused 4)
     ∷ carries (0x80 ∷ 0x7F ∷ 0x07 ∷ 0x40 ∷ 0x10 ∷ 0x00 ∷ 0xAA ∷ []) (queryOf 0x80)
     ∷ carries (0x80 ∷ 0x7F ∷ 0x07 ∷ 0x41 ∷ 0x10 ∷ 0x00 ∷ 0xA9 ∷ []) (resetOf 0x80)
-    ∷ carries (0x81 ∷ 0x7F ∷ 0x08 ∷ 0x41 ∷ 0x52 ∷ 0x46 ∷ 0x00 ∷ 0x1F ∷ []) (replyOf 0x80 0x41 false false)
+    ∷ carries (0x81 ∷ 0x7F ∷ 0x08 ∷ 0x41 ∷ 0x52 ∷ 0x46 ∷ 0x00 ∷ 0x1F ∷ []) (saysOf powerOn 0x80 false)
     ∷ foretells w5 (costs 1 0 500)
     ∷ foretells l3w2e (costs 7 0 600)
     ∷ foretells shi (costs 1 108 2400)

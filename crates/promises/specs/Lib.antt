@@ -1,3 +1,4 @@
 pub mod Bench
 pub mod Line
 pub mod Wire
+pub mod Record

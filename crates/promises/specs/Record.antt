@@ -1,0 +1,90 @@
+-- The sign's record: no trip, the delivery and the driver's wish, as statements over any power-on, receive, step and reset.
+-- Demand 1: "a refusal changes no record and no lent byte". Demand 2: "A body we write as packets, delivered in order and with nothing
+-- between to a sign of that MID, Ready and with a sound record, that isn't collecting that number and hasn't just completed it, is
+-- released once, with the same bytes." The driver: "a line that has started to run to its end, once".
+use Prim.Native.Nat.{ℕ, zero, suc, _≤_, _<_}
+use mathlib.Core.Bool.{Bool, false}
+use mathlib.Core.List.{List}
+use mathlib.Core.Path.{_≡_}
+use lib.ListN.{length, take, replicate}
+use Rattle.packet.specs.Wire.{totalOf, packetAt}
+use Rattle.packet.specs.Read.{readOf}
+use Rattle.packet.specs.declared.read.Reading.the-variants.{Reset as ResetRead}
+use Rattle.judge.specs.Verdict.{judgeOf}
+use Rattle.judge.specs.Grammar.{acceptedAs}
+use Rattle.judge.specs.declared.Verdict.the-variants.{Refused as NoProgram}
+use Rattle.machine.specs.Step.{startedOf}
+use Rattle.machine.specs.declared.Answer.the-variants.{Refused as Stopped}
+use Rattle.sign.specs.Delivery.{Awaits}
+use Rattle.sign.specs.Driver.{movesOf}
+use Rattle.sign.specs.Join.{staysOf}
+use Rattle.sign.specs.Receive.{receiveOf}
+use Rattle.sign.specs.Reset.{powerOn, resetOf, clearedOf}
+use Rattle.sign.specs.Step.{stepOf}
+use Rattle.sign.specs.declared.Sign.{Sign}
+use Rattle.sign.specs.declared.Received.{Received}
+use Rattle.sign.specs.declared.Stepped.{Stepped}
+use Rattle.sign.specs.declared.Cleared.{Cleared}
+use Rattle.sign.specs.declared.Outcome.the-variants.{Reset, Stored, Released, Refused}
+use Rattle.sign.proofs.Keeps.{Good}
+
+-- what an implementation is: its first record, and what it does with one
+pub record Calls : Type 0 where
+  pub power : Sign
+  pub receive : Sign → ℕ → List ℕ → Received
+  pub step : Sign → Stepped
+  pub reset : Sign → Cleared
+
+-- no trip: power-on is sound, no call makes a sound record unsound, and a refusal, a query or a repeat leaves the record
+pub record NoTrip (c : Calls) : Type 0 where
+  pub begins : Good (c .power)
+  pub received : (s : Sign) (mid : ℕ) (b : List ℕ) → Good s → Good (c .receive s mid b .sign)
+  pub stepped : (s : Sign) → Good s → Good (c .step s .sign)
+  pub cleared : (s : Sign) → Good s → Good (c .reset s .sign)
+  pub receive-stays : (s : Sign) (mid : ℕ) (b : List ℕ) → movesOf (c .receive s mid b .outcome) ≡ false → c .receive s mid b .sign ≡ s
+  pub step-stays : (s : Sign) (n : ℕ) → c .step s .answer ≡ Stopped n → c .step s .sign ≡ s
+  pub reset-stays : (s : Sign) (n : ℕ) → c .reset s .outcome ≡ Refused n → c .reset s .sign ≡ s
+
+-- the record behind the first packets of a body, and what the packet at a position is answered behind those before it
+abbrev pub behind : Calls → Sign → ℕ → ℕ → List ℕ → ℕ → Sign
+behind c s mid id body zero = s
+behind c s mid id body (suc n) = c .receive (behind c s mid id body n) mid (packetAt mid id body n) .sign
+
+abbrev pub told : Calls → Sign → ℕ → ℕ → List ℕ → ℕ → Received
+told c s mid id body p = c .receive (behind c s mid id body p) mid (packetAt mid id body p)
+
+-- a body delivered: released by its last packet and by no other, with the same bytes; a program then runs from its first command
+pub record Gets (c : Calls) (s : Sign) (mid id : ℕ) (body : List ℕ) : Type 0 where
+  pub stored : (p : ℕ) → suc p < totalOf body → told c s mid id body p .outcome ≡ Stored
+  pub released : (p : ℕ) → suc p ≡ totalOf body → told c s mid id body p .outcome ≡ Released (judgeOf body)
+  pub same : (p : ℕ) → suc p ≡ totalOf body → take (told c s mid id body p .len) (told c s mid id body p .body) ≡ body
+  pub runs : (p : ℕ) → suc p ≡ totalOf body → (endless : Bool) → judgeOf body ≡ acceptedAs endless
+      → told c s mid id body p .sign .run ≡ startedOf body (s .run .settings)
+  pub rests : (p : ℕ) → suc p ≡ totalOf body → (n place : ℕ) → judgeOf body ≡ NoProgram n place → told c s mid id body p .sign .run ≡ s .run
+
+abbrev pub Delivers : Calls → Type 0
+Delivers c =
+    (s : Sign) → Good s → (mid id : ℕ) (body : List ℕ) → id ≤ 0x3F → 1 ≤ length body → length body ≤ 84 → Awaits s id → Gets c s mid id body
+
+-- the driver: while a line runs, bytes that are no reset for this MID leave the record
+abbrev pub LetsRun : Calls → Type 0
+LetsRun c = (s : Sign) (mid : ℕ) (b : List ℕ) → (s .run .len ≡ 0 → ⊥) → (readOf mid b ≡ ResetRead → ⊥) → c .receive s mid b .sign ≡ s
+
+-- ours
+abbrev pub ours : Calls
+ours = record { power = powerOn; receive = receiveOf; step = stepOf; reset = clearedOf }
+
+-- a joiner that releases one fixed body
+abbrev pub fixedOf : Received → Received
+fixedOf r = record { sign = r .sign; outcome = r .outcome; body = replicate 84 0; len = 1 }
+
+abbrev pub fixed : Calls
+fixed = record { power = powerOn; receive = λ s mid b. fixedOf (receiveOf s mid b); step = stepOf; reset = clearedOf }
+
+-- a sign that starts over whatever comes
+abbrev pub startingOver : Calls
+startingOver = record { power = powerOn; receive = λ s mid b. staysOf (resetOf s) Reset; step = stepOf; reset = clearedOf }
+
+-- a sign that moves on where it answers no: every refused packet is a reset
+abbrev pub shaken : Calls
+shaken = record { power = powerOn; receive = λ s mid b. staysOf (resetOf s) (Refused 1); step = stepOf; reset = clearedOf }

@@ -1,5 +1,5 @@
-use native.Mathlib.Omega.{arith}
 -- `decode` lays within the buffer: it keeps its length, and what is laid lies in it.
+use native.Mathlib.Omega.{arith}
 use borrow.Author.Needs.{needs}
 use lib.ListN.{length}
 use mathlib.Core.Path.{_≡_}

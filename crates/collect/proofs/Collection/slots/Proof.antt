@@ -1,5 +1,5 @@
-use Rattle.basis.proofs.Tests.{tests}
 -- `slots` tests slot after slot: what is left of them decides.
+use Rattle.basis.proofs.Tests.{tests}
 use borrow.Author.Needs.{needs}
 use Rattle.collect.proofs.Turns.{rule-most, slot-cut, slot-wrong, slot-unclean, slot-next, slots-past}
 use Rattle.collect.specs.Slots.{slotsOf}

@@ -1,5 +1,5 @@
-use mathlib.Core.Path.{sym}
 -- `sound` tests part after part; the first that fails decides.
+use mathlib.Core.Path.{sym}
 use Rattle.basis.proofs.Tests.{tests}
 use Rattle.collect.specs.Sound.{soundOf}
 use borrow.Author.Needs.{needs}

@@ -1,5 +1,5 @@
-use native.Mathlib.Omega.{arith}
 -- `same` reads on while the bytes are equal: what is left of both decides.
+use native.Mathlib.Omega.{arith}
 use borrow.Author.Needs.{needs}
 use Rattle.collect.proofs.Equal.{same-next, same-not, same-past, same-length}
 use Rattle.collect.specs.Slots.{sameOf}

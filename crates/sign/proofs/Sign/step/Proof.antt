@@ -1,5 +1,5 @@
-use Rattle.sign.proofs.Stepping.{steppedOf, sound-steps}
 -- `step` refuses an unsound record, and steps the run of a sound one.
+use Rattle.sign.proofs.Stepping.{steppedOf, sound-steps}
 use Rattle.basis.proofs.Tests.{tests}
 use Rattle.sign.specs.Step.{stepOf}
 use borrow.Author.Tests.{not-true, not-false}

@@ -1,6 +1,6 @@
+-- `repeat` gives the standing line wherever the stretch doesn't lie within the body.
 use Rattle.sign.proofs.Stretches.{nowhere, outside, inside, stands, stretches}
 use native.Mathlib.Omega.{arith}
--- `repeat` gives the standing line wherever the stretch doesn't lie within the body.
 use Rattle.basis.proofs.Tests.{tests}
 use mathlib.Core.Path.{_≡_, refl, sym, ap, _∙_}
 use borrow.Author.Needs.{needs}

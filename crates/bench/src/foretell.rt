@@ -1,0 +1,27 @@
+// A body's forecast at pace 4 and one scan. Answers to 01's examples of forecasts.
+use crate::field;
+use machine::Foretold;
+
+// A body at pace 4 and one scan: what is foretold of it.
+pub(crate) fn forecast(body: &[u8]) {
+    io::write_all(1, body);
+    let told = machine::forecast(body, 4, 1);
+    match told {
+        Foretold::Ends(totals) => {
+            let steps = totals.steps;
+            let scans = totals.scans;
+            let millis = totals.millis;
+            field(b": steps ", steps.0);
+            field(b" scans ", scans.0);
+            field(b" ms ", millis.0);
+        }
+        Foretold::Endless => {
+            io::write_all(1, b": never");
+        }
+        Foretold::Refused(n, place) => {
+            field(b": refused ", n as u64);
+            field(b" at ", place as u64);
+        }
+    }
+    io::write_all(1, b"\n");
+}

@@ -1,0 +1,35 @@
+// The bench: every example of 01 that has no star, through the public calls, a line each. The file stdout is written from 01.
+//   carry      how many packets a body takes
+//   show       a body sent to a new sign packet by packet, and its first step
+//   foretell   a body's forecast at pace 4 and one scan
+mod carry;
+mod foretell;
+mod show;
+
+// A word and a number.
+pub(crate) fn field(word: &[u8], n: u64) {
+    io::write_all(1, word);
+    io::print_decimal(1, n);
+}
+
+fn main() {
+    carry::packets(b"AAAAAAAAAAAAAA");
+    carry::packets(b"AAAAAAAAAAAAAAA");
+    carry::packets(
+        b"AAAAAAAAAAAAAAAAAAAAAAAAAAAAAAAAAAAAAAAAAAAAAAAAAAAAAAAAAAAAAAAAAAAAAAAAAAAAAAAAAAAA",
+    );
+    carry::packets(
+        b"AAAAAAAAAAAAAAAAAAAAAAAAAAAAAAAAAAAAAAAAAAAAAAAAAAAAAAAAAAAAAAAAAAAAAAAAAAAAAAAAAAAAA",
+    );
+    show::first(b"^IAHI");
+    show::first(b"^IIHI");
+    show::first(b"^IIabcdefghijklmnop");
+    show::first(b"^IIabcdefghijklmnopq");
+    foretell::forecast(
+        b"^L99^S^S^S^S^S^S^S^S^S^S^S^S^S^S^S^S^S^S^S^S^S^S^S^S^S^S^S^S^S^S^S^S^S^S^S^S^S^S^S^E",
+    );
+    foretell::forecast(b"^L2^SHI^P20^E");
+    foretell::forecast(b"^L2^W1^F");
+    foretell::forecast(b"^W1^R");
+    foretell::forecast(b"^P21");
+}

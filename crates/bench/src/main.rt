@@ -1,4 +1,5 @@
-// The bench: every example of 01 that has no star, through the public calls, a line each. The file stdout is written from 01.
+// The bench: every example of 01 that has no star, and every forecast, through the public calls, a line each. The file stdout is
+// written from 01.
 //   carry      how many packets a body takes
 //   show       a body sent to a new sign packet by packet, and its first step
 //   foretell   a body's forecast at pace 4 and one scan
@@ -28,6 +29,12 @@ fn main() {
     foretell::forecast(
         b"^L99^S^S^S^S^S^S^S^S^S^S^S^S^S^S^S^S^S^S^S^S^S^S^S^S^S^S^S^S^S^S^S^S^S^S^S^S^S^S^S^E",
     );
+    foretell::forecast(b"^W5");
+    foretell::forecast(b"^L3^W2^E");
+    foretell::forecast(b"^SHI");
+    foretell::forecast(b"^S");
+    foretell::forecast(b"^IAHI");
+    foretell::forecast(b"^=6^P1^SA");
     foretell::forecast(b"^L2^SHI^P20^E");
     foretell::forecast(b"^L2^W1^F");
     foretell::forecast(b"^W1^R");

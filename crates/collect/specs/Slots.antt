@@ -63,3 +63,8 @@ storedOf c position part =
       lens = set (c .lens) position (length part);
       room = laid (take (14 * position) (c .room) ++ part) (c .room);
     }
+
+-- the packets held, position by position; an empty one is not held
+abbrev pub packetsOf : List ℕ → List ℕ → List (List ℕ)
+packetsOf [] room = []
+packetsOf (len ∷ lens) room = take len room ∷ packetsOf lens (drop 14 room)

@@ -2,7 +2,9 @@ pub mod Deliveries
 pub mod Driver
 pub mod Joining
 pub mod Keeps
+pub mod Only
 pub mod Packets
+pub mod Punctual
 pub mod Places
 pub mod Sounds
 pub mod Stepping

@@ -1,5 +1,6 @@
 pub mod Delivery
 pub mod Driver
+pub mod Punctual
 pub mod Join
 pub mod Receive
 pub mod Repeat

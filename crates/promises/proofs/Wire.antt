@@ -1,5 +1,6 @@
 -- Ours keeps the promise of the wire; a reader that refuses everything and a writer that writes nothing do not.
 use Prim.Native.Nat.{ℕ, zero, suc, _+_, _-_, _*_, _≤_, _<_, min}
+use mathlib.Core.Bool.{Bool, true}
 use mathlib.Core.List.{List, [], _∷_}
 use mathlib.Core.Path.{_≡_, refl, sym, ap, _∙_}
 use native.Mathlib.Omega.{arith}
@@ -9,8 +10,9 @@ use Rattle.basis.specs.Rows.{firstOf}
 use Rattle.basis.specs.Bytes.{laid}
 use Rattle.basis.proofs.Laid.{take-laid, drop-laid}
 use Rattle.basis.proofs.Tests.{tests}
-use Rattle.packet.specs.Wire.{fifthOf, packetOf, totalOf, partOf, packetAt}
+use Rattle.packet.specs.Wire.{fifthOf, packetOf, totalOf, partOf, packetAt, replyOf}
 use Rattle.packet.specs.Read.{readOf}
+use Rattle.packet.specs.Reply.{isLast, heardOf, replyRows}
 use Rattle.packet.specs.Write.{packetRows, answerOf, bufferOf}
 use Rattle.packet.specs.declared.read.Reading.the-variants.{Normal, Refused}
 use Rattle.packet.specs.declared.write.Written.the-variants.{Wrote}
@@ -18,8 +20,10 @@ use Rattle.packet.proofs.ReadBack.{body-reads, part-stands}
 use Rattle.packet.proofs.Parts.{part-length}
 use Rattle.packet.proofs.Stands.{at-length}
 use Rattle.packet.proofs.Unique.{same-fields}
+use Rattle.packet.proofs.Refusals.{refused-lowest}
+use Rattle.packet.proofs.Replies.{reply-reads, same-reply, no-packet}
 use Rattle.promises.specs.Bench.{hi}
-use Rattle.promises.specs.Wire.{ReadsBack, WireHolds, ours, refusing, idle}
+use Rattle.promises.specs.Wire.{ReadsBack, HearsBack, WireHolds, ours, refusing, idle}
 
 module _ (mid id : ℕ) (body : List ℕ) (position : ℕ) (out : List ℕ) (normal : id ≤ 0x3F) (some : 1 ≤ length body) (most : length body ≤ 84)
     (below : position < totalOf body)
@@ -55,8 +59,36 @@ module _ (mid id : ℕ) (body : List ℕ) (position : ℕ) (out : List ℕ) (nor
         behind = ap (drop n) laying ∙ drop-laid p out;
       }
 
+module _ (mid last : ℕ) (busy sink : Bool) (out : List ℕ) (known : isLast last ≡ true) (room : 8 ≤ length out) where
+  -- nothing refuses the reply
+  free : firstOf (replyRows mid last busy sink out) ≡ 0
+  unfolding replyOf
+  free =
+      let enough : length (replyOf mid last busy sink) ≤ length out = omega arith in
+      search (tests, enough, known)
+
+  pub ours-hears : HearsBack ours mid last busy sink out
+  unfolding replyOf
+  ours-hears =
+      let p = replyOf mid last busy sink in
+      let laying : ours .reply mid last busy sink out .buffer ≡ laid p out = ap (λ (k : ℕ). bufferOf k p out) free in
+      let front : take 8 (ours .reply mid last busy sink out .buffer) ≡ p = ap (take 8) laying ∙ take-laid p out in
+      record {
+        count = ap (λ (k : ℕ). answerOf k p) free;
+        told = ap (heardOf mid) front ∙ reply-reads mid last busy sink known;
+        behind = ap (drop 8) laying ∙ drop-laid p out;
+        apart = λ m. ap (readOf m) front ∙ no-packet m mid last busy sink;
+      }
+
 pub ours-holds : WireHolds ours
-ours-holds = record { back = ours-back; same = same-fields }
+ours-holds =
+    record {
+      back = ours-back;
+      same = same-fields;
+      lowest = refused-lowest;
+      heard = ours-hears;
+      same-heard = same-reply;
+    }
 
 -- 21 bytes of room
 room21 : List ℕ

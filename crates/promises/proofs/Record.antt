@@ -1,10 +1,12 @@
 -- Ours keeps the promises of the record; a joiner of one fixed body, a sign that starts over and one that a refusal shakes do not.
-use Prim.Native.Nat.{ℕ, zero, suc, _<_}
-use mathlib.Core.List.{List, []}
-use mathlib.Core.Path.{_≡_, refl, ap, _∙_}
+use Prim.Native.Nat.{ℕ, zero, suc, _*_, _≤_, _<_}
+use mathlib.Core.List.{List, [], _∷_}
+use mathlib.Core.Path.{_≡_, refl, sym, ap, _∙_}
 use native.Mathlib.Omega.{arith}
-use lib.ListN.{length, take}
-use Rattle.packet.specs.Wire.{totalOf, packetAt}
+use lib.ListN.{length, getD, take, drop}
+use lib.Seq.{getD-take}
+use Rattle.packet.specs.Wire.{fifthOf, totalOf, partOf, packetAt, transmissionOf}
+use Rattle.packet.proofs.Stands.{at-length, packet-stands, count-stands}
 use Rattle.packet.specs.Read.{readOf}
 use Rattle.packet.specs.declared.read.Reading.the-variants.{Reset as ResetRead, Refused as Unread}
 use Rattle.collect.specs.Slots.{begunOf, noneOf}
@@ -19,7 +21,7 @@ use Rattle.sign.proofs.Keeps.{Good, power-good, receive-good, step-good, cleare
 use Rattle.sign.proofs.Driver.{receive-still, step-still, reset-still, busy-stays}
 use Rattle.sign.proofs.Deliveries.{delivers}
 use Rattle.promises.specs.Bench.{hi}
-use Rattle.promises.specs.Record.{Calls, NoTrip, Gets, Delivers, LetsRun, behind, told, ours, fixed, startingOver, shaken}
+use Rattle.promises.specs.Record.{Calls, NoTrip, Gets, Delivers, LetsRun, cutOf, behind, told, ours, fixed, startingOver, shaken}
 
 pub ours-never-trips : NoTrip ours
 ours-never-trips =
@@ -33,24 +35,40 @@ ours-never-trips =
       reset-stays = reset-still;
     }
 
-behind-is : (s : Sign) (mid id : ℕ) (body : List ℕ) (n : ℕ) → behind ours s mid id body n ≡ afterPackets s mid id body n
-behind-is s mid id body zero = refl
-behind-is s mid id body (suc n) = ap (λ (t : Sign). receiveOf t mid (packetAt mid id body n) .sign) (behind-is s mid id body n)
+-- the packets of a transmission, cut by their counts, are the body's
+pub cut-is : (mid id : ℕ) (body : List ℕ) (p : ℕ) → p < totalOf body → cutOf (transmissionOf mid id body) p ≡ packetAt mid id body p
+cut-is mid id body p below =
+    let t = drop (21 * p) (transmissionOf mid id body) in
+    let n = length (packetAt mid id body p) in
+    let stands = packet-stands mid id body p below in
+    let count : getD t 2 0 ≡ n =
+    sym (getD-take n t 2 0 (omega (arith, at-length mid id body p)))
+    ∙ ap (λ (s : List ℕ). getD s 2 0) stands
+    ∙ count-stands mid id (fifthOf (totalOf body) p) (partOf body p) in
+    ap (λ (k : ℕ). take k t) count ∙ stands
+
+behind-is : (s : Sign) (mid id : ℕ) (body : List ℕ) (n : ℕ) → n ≤ totalOf body → behind ours s mid id body n ≡ afterPackets s mid id body n
+behind-is s mid id body zero h = refl
+behind-is s mid id body (suc n) h =
+    ap (λ (t : Sign). receiveOf t mid (cutOf (transmissionOf mid id body) n) .sign) (behind-is s mid id body n (omega arith))
+    ∙ ap (λ (b : List ℕ). receiveOf (afterPackets s mid id body n) mid b .sign) (cut-is mid id body n h)
 
 pub ours-delivers : Delivers ours
 unfolding staysOf
 ours-delivers s good mid id body known some most waits =
     let d : Delivered s mid id body = delivers s good mid id body known some most waits in
     record {
-      stored = λ p more. ap (λ (r : Received). r .outcome) (at p) ∙ ap (λ (r : Received). r .outcome) (d .stored p more);
-      released = λ p e. ap (λ (r : Received). r .outcome) (at p) ∙ d .released p e;
-      same = λ p e. ap (λ (r : Received). take (r .len) (r .body)) (at p) ∙ d .same p e;
-      runs = λ p e endless q. ap (λ (r : Received). r .sign .run) (at p) ∙ d .runs p e endless q;
-      rests = λ p e n place q. ap (λ (r : Received). r .sign .run) (at p) ∙ d .rests p e n place q;
+      stored = λ p more. ap (λ (r : Received). r .outcome) (at p (omega arith)) ∙ ap (λ (r : Received). r .outcome) (d .stored p more);
+      released = λ p e. ap (λ (r : Received). r .outcome) (at p (omega arith)) ∙ d .released p e;
+      same = λ p e. ap (λ (r : Received). take (r .len) (r .body)) (at p (omega arith)) ∙ d .same p e;
+      runs = λ p e endless q. ap (λ (r : Received). r .sign .run) (at p (omega arith)) ∙ d .runs p e endless q;
+      rests = λ p e n place q. ap (λ (r : Received). r .sign .run) (at p (omega arith)) ∙ d .rests p e n place q;
     }
   where
-    at : (p : ℕ) → told ours s mid id body p ≡ answerTo s mid id body p
-    at p = ap (λ (t : Sign). receiveOf t mid (packetAt mid id body p)) (behind-is s mid id body p)
+    at : (p : ℕ) → p < totalOf body → told ours s mid id body p ≡ answerTo s mid id body p
+    at p below =
+        ap (λ (t : Sign). receiveOf t mid (cutOf (transmissionOf mid id body) p)) (behind-is s mid id body p (omega arith))
+        ∙ ap (λ (b : List ℕ). receiveOf (afterPackets s mid id body p) mid b) (cut-is mid id body p below)
 
 pub ours-lets-run : LetsRun ours
 ours-lets-run = busy-stays

@@ -2,12 +2,12 @@
 -- Demand 1: "a refusal changes no record and no lent byte". Demand 2: "A body we write as packets, delivered in order and with nothing
 -- between to a sign of that MID, Ready and with a sound record, that isn't collecting that number and hasn't just completed it, is
 -- released once, with the same bytes." The driver: "a line that has started to run to its end, once".
-use Prim.Native.Nat.{ℕ, zero, suc, _≤_, _<_}
+use Prim.Native.Nat.{ℕ, zero, suc, _*_, _≤_, _<_}
 use mathlib.Core.Bool.{Bool, false}
 use mathlib.Core.List.{List}
 use mathlib.Core.Path.{_≡_}
-use lib.ListN.{length, take, replicate}
-use Rattle.packet.specs.Wire.{totalOf, packetAt}
+use lib.ListN.{length, getD, take, drop, replicate}
+use Rattle.packet.specs.Wire.{totalOf, transmissionOf}
 use Rattle.packet.specs.Read.{readOf}
 use Rattle.packet.specs.declared.read.Reading.the-variants.{Reset as ResetRead}
 use Rattle.judge.specs.Verdict.{judgeOf}
@@ -45,13 +45,17 @@ pub record NoTrip (c : Calls) : Type 0 where
   pub step-stays : (s : Sign) (n : ℕ) → c .step s .answer ≡ Stopped n → c .step s .sign ≡ s
   pub reset-stays : (s : Sign) (n : ℕ) → c .reset s .outcome ≡ Refused n → c .reset s .sign ≡ s
 
--- the record behind the first packets of a body, and what the packet at a position is answered behind those before it
+-- the packet at a position of a transmission, cut out by its count, the third byte
+abbrev pub cutOf : List ℕ → ℕ → List ℕ
+cutOf t p = take (getD (drop (21 * p) t) 2 0) (drop (21 * p) t)
+
+-- the record behind the first packets of a body's transmission, and what the packet at a position is answered behind those before it
 abbrev pub behind : Calls → Sign → ℕ → ℕ → List ℕ → ℕ → Sign
 behind c s mid id body zero = s
-behind c s mid id body (suc n) = c .receive (behind c s mid id body n) mid (packetAt mid id body n) .sign
+behind c s mid id body (suc n) = c .receive (behind c s mid id body n) mid (cutOf (transmissionOf mid id body) n) .sign
 
 abbrev pub told : Calls → Sign → ℕ → ℕ → List ℕ → ℕ → Received
-told c s mid id body p = c .receive (behind c s mid id body p) mid (packetAt mid id body p)
+told c s mid id body p = c .receive (behind c s mid id body p) mid (cutOf (transmissionOf mid id body) p)
 
 -- a body delivered: released by its last packet and by no other, with the same bytes; a program then runs from its first command
 pub record Gets (c : Calls) (s : Sign) (mid id : ℕ) (body : List ℕ) : Type 0 where

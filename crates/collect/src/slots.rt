@@ -1,24 +1,10 @@
 // Which collections are sound. Answers to 01's last paragraph of "Numbers for no": "the collected packets obey the packet rules, are
 // of one total, at least one and not all there, and their ID isn't the last completed; unused room holds zeros".
 use crate::Collection;
+use machine::zeros;
 ghost use mathlib.Core.Path.{_≡_};
-ghost use Rattle.machine.specs.Sound.{zerosOf};
 ghost use Rattle.collect.specs.Slots.{ruleOf, oneOf, heldOf, slotsOf};
 ghost use Rattle.collect.specs.Sound.{soundOf};
-
-// Whether all bytes are 0.
-fn zeros(bytes: &[u8]) -> bool
-    ensures { λ r. ⌜ r ≡ zerosOf (now (bytes .entry)) ⌝ }
-{
-    let mut i = 0;
-    while i < bytes.len() {
-        if bytes[i] != 0 {
-            return false;
-        }
-        i += 1;
-    }
-    true
-}
 
 // Whether a packet of this length may be held at a position; 0 is none.
 fn rule(total: u8, position: usize, len: u8) -> bool

@@ -12,4 +12,4 @@ pub mod Small
 pub mod Sounds
 pub mod Sums
 pub mod Wholes
-pub mod Zeros
+pub mod Blanks

@@ -11,6 +11,7 @@ use perform::Performed;
 use perform::Settings;
 pub use reckon::Foretold;
 pub use reckon::forecast;
+pub use sound::zeros;
 pub use totals::Totals;
 
 // The open loop: the place behind its `L` and the count left, both 0 outside loops.

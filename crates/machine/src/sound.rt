@@ -9,7 +9,7 @@ ghost use mathlib.Core.Path.{_≡_};
 ghost use Rattle.machine.specs.Sound.{zerosOf, restsOf, heldOf, soundOf};
 
 // Whether all bytes are 0.
-fn zeros(bytes: &[u8]) -> bool
+pub fn zeros(bytes: &[u8]) -> bool
     ensures { λ r. ⌜ r ≡ zerosOf (now (bytes .entry)) ⌝ }
 {
     let mut i = 0;

@@ -72,6 +72,9 @@ use Rattle.machine.proofs.Run.sound.Reads as machine-Run-sound-reads
 use Rattle.machine.proofs.forecast as machine-forecast
 use Rattle.machine.proofs.forecast.Kinds as machine-forecast-kinds
 use Rattle.machine.proofs.forecast.Reads as machine-forecast-reads
+use Rattle.machine.proofs.zeros as machine-zeros
+use Rattle.machine.proofs.zeros.Kinds as machine-zeros-kinds
+use Rattle.machine.proofs.zeros.Reads as machine-zeros-reads
 use Rattle.machine.proofs.totals.Totals.none as machine-totals-Totals-none
 use Rattle.machine.proofs.totals.Totals.none.Kinds as machine-totals-Totals-none-kinds
 use Rattle.machine.proofs.totals.Totals.none.Reads as machine-totals-Totals-none-reads
@@ -250,6 +253,10 @@ one-machine-Run-sound κs a r r′ s s′ h h′ = one h h′
 pub one-machine-forecast : (κs : Lifetimes.Lfts 1) (a : World.ArgsD machine-forecast.signature κs) (r r′ : World.ResD machine-forecast.signature κs)
     (s s′ : Clauses.AtExit (K.endedOf 1 machine-forecast-kinds.ps machine-forecast-kinds.r) κs) → machine-forecast-reads.Post κs a r s → machine-forecast-reads.Post κs a r′ s′ → r ≡ r′
 one-machine-forecast κs a r r′ s s′ h h′ = one h h′
+
+pub one-machine-zeros : (κs : Lifetimes.Lfts 1) (a : World.ArgsD machine-zeros.signature κs) (r r′ : World.ResD machine-zeros.signature κs)
+    (s s′ : Clauses.AtExit (K.endedOf 1 machine-zeros-kinds.ps machine-zeros-kinds.r) κs) → machine-zeros-reads.Post κs a r s → machine-zeros-reads.Post κs a r′ s′ → r ≡ r′
+one-machine-zeros κs a r r′ s s′ h h′ = one h h′
 
 pub one-machine-totals-Totals-none : (κs : Lifetimes.Lfts 0) (a : World.ArgsD machine-totals-Totals-none.signature κs) (r r′ : World.ResD machine-totals-Totals-none.signature κs)
     (s s′ : Clauses.AtExit (K.endedOf 0 machine-totals-Totals-none-kinds.ps machine-totals-Totals-none-kinds.r) κs) → machine-totals-Totals-none-reads.Post κs a r s → machine-totals-Totals-none-reads.Post κs a r′ s′ → r ≡ r′

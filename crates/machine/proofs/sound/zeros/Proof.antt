@@ -4,7 +4,7 @@ use mathlib.Core.Path.{_≡_, sym, _∙_}
 use lib.ListN.{length, drop}
 use borrow.Author.Needs.{needs}
 use Rattle.machine.specs.Sound.{zerosOf}
-use Rattle.machine.proofs.Zeros.{zero-next, zero-not, zero-past}
+use Rattle.machine.proofs.Blanks.{zero-next, zero-not, zero-past}
 use Rattle.machine.proofs.sound.zeros.Statement.{statement}
 use Rattle.machine.proofs.sound.zeros.Tie as tie
 

@@ -6,9 +6,9 @@ use mathlib.Core.Path.{_≡_, refl, sym, ap, _∙_}
 use native.Mathlib.Omega.{arith}
 use lib.Dec.{eqb, leb}
 use lib.ListN.{length, take, drop}
-use borrow.Author.Tests.{lt-leb, le-leb, eq-eqb, ne-eqb}
+use borrow.Author.Tests.{lt-leb, le-leb, leb-true, eq-eqb, ne-eqb}
 use Rattle.basis.specs.Choice.{when, _and_}
-use Rattle.basis.proofs.Choices.{and-true, when-true, when-false}
+use Rattle.basis.proofs.Choices.{and-true, and-parts, when-true, when-false}
 use Rattle.sign.specs.Repeat.{withinOf, repeatOf}
 
 module _ (body : List ℕ) (place len : ℕ) where
@@ -25,6 +25,10 @@ module _ (body : List ℕ) (place len : ℕ) where
 
   pub inside : (place ≡ 0 → ⊥) → place + len ≤ length body → withinOf body place len ≡ true
   inside some h = and-true _ _ (ap not (ne-eqb place 0 some)) (le-leb (place + len) (length body) h)
+
+  -- a stretch that lies within ends there
+  pub ends : withinOf body place len ≡ true → place + len ≤ length body
+  ends e = leb-true (place + len) (length body) (and-parts (not (eqb place 0)) _ e .1)
 
   -- the standing line, by its bytes and by its memory
   pub stands : (standing : List ℕ) (b o block at : ℕ) → withinOf body place len ≡ false

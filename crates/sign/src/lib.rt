@@ -20,6 +20,7 @@ use judge::Verdict;
 use machine::Answer;
 use machine::Run;
 pub use repeater::repeat;
+pub use repeater::shows;
 
 // The record: last completed ID, the packets being collected, and the running program with the settings.
 pub struct Sign {

@@ -1,0 +1,20 @@
+-- `yd_write_query` has the writer's own outcomes.
+use Rattle.cabi.proofs.Lays.{tells}
+use borrow.Author.Needs.{needs}
+use Rattle.cabi.proofs.wire.yd_write_query.Statement.{statement}
+use Rattle.cabi.proofs.wire.yd_write_query.Tie as tie
+
+write-query-requires : tie.Need-write-query-requires
+write-query-requires c κs = search needs
+
+wrote-requires : tie.Need-wrote-requires
+wrote-requires c κs = search needs
+
+same-length : tie.Need-same-length
+same-length c = search needs
+
+returns : tie.Need-returns
+returns c = tells (c .before .before .before .write-query .ensures) (c .wrote .ensures)
+
+pub yd-write-query-spec : {M : Type 1} → statement M
+yd-write-query-spec = tie.close (tie.spec write-query-requires wrote-requires same-length returns)

@@ -1,0 +1,28 @@
+// The calls for C: numbers and lent bytes, one function for each public call, as include/yurodekapi.h describes them.
+// No call has a `requires`: each answers for any numbers and any bytes. An image of another size (251) or an answer that is too short
+// (252) is refused before all else, and a refused call changes no lent byte.
+//   words  numbers as words of four bytes, the result of a call, and the record in a lent image
+//   wire   packets and replies, read and written      01, "The packet"
+//   line   a body judged and forecast                 01, "The program", "One step, and what it costs"
+//   unit   the sign over its image                    01, "Joining", "One step, and what it costs"
+mod line;
+mod unit;
+mod wire;
+mod words;
+
+pub use line::yd_forecast;
+pub use line::yd_judge;
+pub use unit::yd_copy_body;
+pub use unit::yd_power_on;
+pub use unit::yd_receive;
+pub use unit::yd_repeat;
+pub use unit::yd_reply;
+pub use unit::yd_reset;
+pub use unit::yd_step;
+pub use wire::yd_read_packet;
+pub use wire::yd_read_reply;
+pub use wire::yd_write_packet;
+pub use wire::yd_write_query;
+pub use wire::yd_write_reply;
+pub use wire::yd_write_reset;
+pub use wire::yd_write_transmission;

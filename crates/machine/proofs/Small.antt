@@ -9,11 +9,11 @@ use lib.Dec.{eqb}
 use lib.ListN.{length, take, drop, length-take}
 use Rattle.basis.specs.Choice.{when}
 use Rattle.units.specs.Units.{capped, sumOf, scansOf as scansEach, roundedUp, millisOf as millisAt}
-use Rattle.program.specs.Width.{widthOf, fitsOf}
+use Rattle.measure.specs.Width.{widthOf, fitsOf}
 use Rattle.program.specs.declared.Kind.{Kind}
 use Rattle.program.specs.declared.Kind.the-variants.{II, IA, IB, S, L, E, F, R, XS, XF, P, Scans, W, XD, XB, Y}
 use Rattle.program.proofs.Ranges.{formOf, InRange}
-use Rattle.program.proofs.Widths.{width-most}
+use Rattle.measure.proofs.Widths.{width-most}
 use Rattle.perform.specs.Price.{doingOf, shiftsOf, scansOf, millisOf, answerOf}
 use Rattle.perform.specs.Settings.{soundOf as settingsSound, behindOf}
 use Rattle.perform.specs.declared.price.Doing.{Doing}

@@ -36,15 +36,15 @@ use Rattle.packet.proofs.checksum.Reads as packet-checksum-reads
 use Rattle.program.proofs.read_command as program-read-command
 use Rattle.program.proofs.read_command.Kinds as program-read-command-kinds
 use Rattle.program.proofs.read_command.Reads as program-read-command-reads
-use Rattle.program.proofs.width as program-width
-use Rattle.program.proofs.width.Kinds as program-width-kinds
-use Rattle.program.proofs.width.Reads as program-width-reads
-use Rattle.program.proofs.fits as program-fits
-use Rattle.program.proofs.fits.Kinds as program-fits-kinds
-use Rattle.program.proofs.fits.Reads as program-fits-reads
-use Rattle.program.proofs.start_column as program-start-column
-use Rattle.program.proofs.start_column.Kinds as program-start-column-kinds
-use Rattle.program.proofs.start_column.Reads as program-start-column-reads
+use Rattle.measure.proofs.width as measure-width
+use Rattle.measure.proofs.width.Kinds as measure-width-kinds
+use Rattle.measure.proofs.width.Reads as measure-width-reads
+use Rattle.measure.proofs.fits as measure-fits
+use Rattle.measure.proofs.fits.Kinds as measure-fits-kinds
+use Rattle.measure.proofs.fits.Reads as measure-fits-reads
+use Rattle.measure.proofs.start_column as measure-start-column
+use Rattle.measure.proofs.start_column.Kinds as measure-start-column-kinds
+use Rattle.measure.proofs.start_column.Reads as measure-start-column-reads
 use Rattle.judge.proofs.judge as judge-judge
 use Rattle.judge.proofs.judge.Kinds as judge-judge-kinds
 use Rattle.judge.proofs.judge.Reads as judge-judge-reads
@@ -206,17 +206,17 @@ pub one-program-read-command : (κs : Lifetimes.Lfts 1) (a : World.ArgsD program
     (s s′ : Clauses.AtExit (K.endedOf 1 program-read-command-kinds.ps program-read-command-kinds.r) κs) → program-read-command-reads.Post κs a r s → program-read-command-reads.Post κs a r′ s′ → r ≡ r′
 one-program-read-command κs a r r′ s s′ h h′ = one h h′
 
-pub one-program-width : (κs : Lifetimes.Lfts 1) (a : World.ArgsD program-width.signature κs) (r r′ : World.ResD program-width.signature κs)
-    (s s′ : Clauses.AtExit (K.endedOf 1 program-width-kinds.ps program-width-kinds.r) κs) → program-width-reads.Post κs a r s → program-width-reads.Post κs a r′ s′ → r ≡ r′
-one-program-width κs a r r′ s s′ h h′ = one h h′
+pub one-measure-width : (κs : Lifetimes.Lfts 1) (a : World.ArgsD measure-width.signature κs) (r r′ : World.ResD measure-width.signature κs)
+    (s s′ : Clauses.AtExit (K.endedOf 1 measure-width-kinds.ps measure-width-kinds.r) κs) → measure-width-reads.Post κs a r s → measure-width-reads.Post κs a r′ s′ → r ≡ r′
+one-measure-width κs a r r′ s s′ h h′ = one h h′
 
-pub one-program-fits : (κs : Lifetimes.Lfts 0) (a : World.ArgsD program-fits.signature κs) (r r′ : World.ResD program-fits.signature κs)
-    (s s′ : Clauses.AtExit (K.endedOf 0 program-fits-kinds.ps program-fits-kinds.r) κs) → program-fits-reads.Post κs a r s → program-fits-reads.Post κs a r′ s′ → r ≡ r′
-one-program-fits κs a r r′ s s′ h h′ = one h h′
+pub one-measure-fits : (κs : Lifetimes.Lfts 0) (a : World.ArgsD measure-fits.signature κs) (r r′ : World.ResD measure-fits.signature κs)
+    (s s′ : Clauses.AtExit (K.endedOf 0 measure-fits-kinds.ps measure-fits-kinds.r) κs) → measure-fits-reads.Post κs a r s → measure-fits-reads.Post κs a r′ s′ → r ≡ r′
+one-measure-fits κs a r r′ s s′ h h′ = one h h′
 
-pub one-program-start-column : (κs : Lifetimes.Lfts 0) (a : World.ArgsD program-start-column.signature κs) (r r′ : World.ResD program-start-column.signature κs)
-    (s s′ : Clauses.AtExit (K.endedOf 0 program-start-column-kinds.ps program-start-column-kinds.r) κs) → program-start-column-reads.Post κs a r s → program-start-column-reads.Post κs a r′ s′ → r ≡ r′
-one-program-start-column κs a r r′ s s′ h h′ = one h h′
+pub one-measure-start-column : (κs : Lifetimes.Lfts 0) (a : World.ArgsD measure-start-column.signature κs) (r r′ : World.ResD measure-start-column.signature κs)
+    (s s′ : Clauses.AtExit (K.endedOf 0 measure-start-column-kinds.ps measure-start-column-kinds.r) κs) → measure-start-column-reads.Post κs a r s → measure-start-column-reads.Post κs a r′ s′ → r ≡ r′
+one-measure-start-column κs a r r′ s s′ h h′ = one h h′
 
 pub one-judge-judge : (κs : Lifetimes.Lfts 1) (a : World.ArgsD judge-judge.signature κs) (r r′ : World.ResD judge-judge.signature κs)
     (s s′ : Clauses.AtExit (K.endedOf 1 judge-judge-kinds.ps judge-judge-kinds.r) κs) → judge-judge-reads.Post κs a r s → judge-judge-reads.Post κs a r′ s′ → r ≡ r′

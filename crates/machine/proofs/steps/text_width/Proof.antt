@@ -4,8 +4,8 @@ use mathlib.Core.Path.{_≡_, ap, _∙_}
 use native.Mathlib.Omega.{arith}
 use lib.ListN.{length, take, drop, length-take, length-drop}
 use borrow.Author.Needs.{needs}
-use Rattle.program.specs.Width.{widthOf, widest}
-use Rattle.program.proofs.Widths.{width-whole}
+use Rattle.measure.specs.Width.{widthOf, widest}
+use Rattle.measure.proofs.Widths.{width-whole}
 use Rattle.machine.proofs.steps.text_width.Statement.{statement}
 use Rattle.machine.proofs.steps.text_width.Tie as tie
 

@@ -1,8 +1,8 @@
--- `program::measure::font_behind` meets its contract: at each return the tests that led there are those of `fontOf`.
+-- `measure::font_behind` meets its contract: at each return the tests that led there are those of `fontOf`.
 use Rattle.basis.proofs.Tests.{tests}
 use borrow.Author.Needs.{needs}
-use Rattle.program.proofs.measure.font_behind.Statement.{statement}
-use Rattle.program.proofs.measure.font_behind.Tie as tie
+use Rattle.measure.proofs.measure.font_behind.Statement.{statement}
+use Rattle.measure.proofs.measure.font_behind.Tie as tie
 
 switched-requires : tie.Need-switched-requires
 switched-requires c κs = search needs

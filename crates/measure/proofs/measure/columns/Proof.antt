@@ -1,8 +1,8 @@
--- `program::measure::columns` meets its contract: at each return the tests that led there are those of `columnsOf`.
+-- `measure::columns` meets its contract: at each return the tests that led there are those of `columnsOf`.
 use Rattle.basis.proofs.Tests.{tests}
 use borrow.Author.Needs.{needs}
-use Rattle.program.proofs.measure.columns.Statement.{statement}
-use Rattle.program.proofs.measure.columns.Tie as tie
+use Rattle.measure.proofs.measure.columns.Statement.{statement}
+use Rattle.measure.proofs.measure.columns.Tie as tie
 
 returns : tie.Need-returns
 returns c = search tests

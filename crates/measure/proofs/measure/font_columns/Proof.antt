@@ -1,7 +1,7 @@
--- `program::measure::font_columns` meets its contract: at each return the tests that led there are those of `fontColumns`.
+-- `measure::font_columns` meets its contract: at each return the tests that led there are those of `fontColumns`.
 use Rattle.basis.proofs.Tests.{tests}
-use Rattle.program.proofs.measure.font_columns.Statement.{statement}
-use Rattle.program.proofs.measure.font_columns.Tie as tie
+use Rattle.measure.proofs.measure.font_columns.Statement.{statement}
+use Rattle.measure.proofs.measure.font_columns.Tie as tie
 
 returns : tie.Need-returns
 returns c = search tests

@@ -1,7 +1,7 @@
--- `program::measure::switched` meets its contract: the test is that of `fontOf` behind a tilde.
+-- `measure::switched` meets its contract: the test is that of `fontOf` behind a tilde.
 use Rattle.basis.proofs.Tests.{tests}
-use Rattle.program.proofs.measure.switched.Statement.{statement}
-use Rattle.program.proofs.measure.switched.Tie as tie
+use Rattle.measure.proofs.measure.switched.Statement.{statement}
+use Rattle.measure.proofs.measure.switched.Tie as tie
 
 returns : tie.Need-returns
 returns c = search tests

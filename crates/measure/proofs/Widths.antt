@@ -8,8 +8,8 @@ use lib.Dec.{eqb, leb}
 use lib.ListN.{length, getD, drop, drop-of-length-le}
 use Rattle.basis.specs.Choice.{when}
 use Rattle.basis.proofs.Lists.{drop-next}
 use Rattle.program.specs.Bytes.{tilde}
-use Rattle.program.specs.Width.{fontColumns, columnsOf, fontOf, widthFrom, widest}
+use Rattle.measure.specs.Width.{fontColumns, columnsOf, fontOf, widthFrom, widest}
 
 pick-most : (t : Bool) (a b n : ℕ) → a ≤ n → b ≤ n → when t a b ≤ n
 pick-most true a b n h k = h

@@ -1,14 +1,14 @@
--- `program::measure::width` meets its contract. The invariant: the sum so far and the width of what is left come to the whole
+-- `measure::width` meets its contract. The invariant: the sum so far and the width of what is left come to the whole
 -- width, both counted to the cap. The measure is what is left of the text.
 use Prim.Native.Nat.{ℕ, _+_, _-_, _≤_, min}
 use native.Mathlib.Omega.{arith}
 use mathlib.Core.Path.{_≡_, ap}
 use lib.ListN.{length, getD, drop}
 use borrow.Author.Needs.{needs}
-use Rattle.program.specs.Width.{widthFrom, widthOf, widest}
-use Rattle.program.proofs.Widths.{columns-most, width-next, width-end}
-use Rattle.program.proofs.measure.width.Statement.{statement}
-use Rattle.program.proofs.measure.width.Tie as tie
+use Rattle.measure.specs.Width.{widthFrom, widthOf, widest}
+use Rattle.measure.proofs.Widths.{columns-most, width-next, width-end}
+use Rattle.measure.proofs.measure.width.Statement.{statement}
+use Rattle.measure.proofs.measure.width.Tie as tie
 
 abbrev Inv-loop : tie.InvT-loop
 Inv-loop text at₀ font₀ last₀ sum₀ at font last sum = (sum ≤ widest) × (min (sum + widthFrom font last (drop at text)) widest ≡ min (widthOf text) widest)

@@ -1,6 +1,3 @@
-pub mod Forecast
 pub mod Moves
-pub mod Reckon
 pub mod Sound
 pub mod Step
-pub mod Totals

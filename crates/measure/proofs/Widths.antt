@@ -1,11 +1,12 @@
 -- Laws of a text's width: one byte more, and how wide a byte can be.
-use Prim.Native.Nat.{ℕ, _+_, _*_, _≤_, _<_, min}
+use Prim.Native.Nat.{ℕ, _+_, _-_, _*_, _≤_, _<_, min}
 use mathlib.Core.Path.{_≡_, refl, sym, ap, _∙_}
 use mathlib.Core.Bool.{Bool, true, false}
 use mathlib.Core.List.{List, [], _∷_}
 use native.Mathlib.Omega.{arith}
 use lib.Dec.{eqb, leb}
-use lib.ListN.{length, getD, drop, drop-of-length-le}
+use lib.ListN.{length, getD, take, drop, drop-of-length-le, length-take, length-drop}
+use lib.Seq.{take-all}
 use Rattle.basis.specs.Choice.{when}
 use Rattle.basis.proofs.Lists.{drop-next}
 use Rattle.program.specs.Bytes.{tilde}
@@ -44,3 +45,18 @@ width-most (x ∷ s) font last =
 
 pub width-whole : (s : List ℕ) (font last : ℕ) → length s ≤ 111 → min (widthFrom font last s) widest ≡ widthFrom font last s
 width-whole s font last h = let w = width-most s font last in omega arith
+
+-- the same of a text that stands in a body of at most 111 bytes
+pub part-whole : (b : List ℕ) (p n : ℕ) → length b ≤ 111 → min (widthFrom 0x44 0 (take n (drop p b))) widest ≡ widthFrom 0x44 0 (take n (drop p b))
+part-whole b p n h =
+    width-whole (take n (drop p b)) 0x44 0 (omega (arith, length-take n (drop p b), length-drop p b))
+
+-- a text that stands behind the body's end is empty, and one that would reach past it ends there
+pub part-none : (b : List ℕ) (p n : ℕ) → length b < p → 0 ≡ min (widthFrom 0x44 0 (take n (drop p b))) widest
+part-none b p n h =
+    let w = width-most (take n (drop p b)) 0x44 0 in
+    omega (arith, length-take n (drop p b), length-drop p b)
+
+pub part-rest : (b : List ℕ) (p n : ℕ) → length b - p < n → take (length b - p) (drop p b) ≡ take n (drop p b)
+part-rest b p n h =
+    take-all (length b - p) (drop p b) (omega (arith, length-drop p b)) ∙ sym (take-all n (drop p b) (omega (arith, length-drop p b)))

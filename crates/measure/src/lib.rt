@@ -6,4 +6,5 @@ mod measure;
 
 pub use measure::fits;
 pub use measure::start_column;
+pub use measure::text_width;
 pub use measure::width;

@@ -3,6 +3,7 @@
 use program::TILDE;
 ghost use mathlib.Core.Path.{_≡_};
 ghost use Prim.Native.Nat.{_+_, _≤_, min};
+ghost use lib.ListN.{take, drop};
 ghost use Rattle.program.specs.Bytes.{tilde};
 ghost use Rattle.measure.specs.Width.{fontColumns, columnsOf, fontOf, widthOf, widest, fitsOf, columnOf};
 
@@ -98,6 +99,19 @@ pub fn width(text: &[u8]) -> usize
         at += 1;
     }
     sum
+}
+
+// The width of the text of so many bytes that stands at a place of a body, as far as the body reaches.
+pub fn text_width(body: &[u8], place: usize, len: usize) -> usize
+    ensures { λ r. ⌜ r ≡ min (widthOf (take len (drop place (now (body .entry))))) widest ⌝ }
+{
+    if body.len() < place {
+        return 0;
+    }
+    if body.len() - place < len {
+        return width(&body[place..]);
+    }
+    width(&body[place..place + len])
 }
 
 // Whether a text of this width fits the sign.

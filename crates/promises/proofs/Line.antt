@@ -14,15 +14,15 @@ use Rattle.perform.specs.declared.settings.Settings.{Settings}
 use Rattle.perform.specs.declared.price.Performed.{Performed}
 use Rattle.judge.specs.Verdict.{judgeOf}
 use Rattle.judge.specs.declared.Verdict.the-variants.{Finite}
-use Rattle.machine.specs.Forecast.{settingsAt, forecastOf}
+use Rattle.reckon.specs.Forecast.{settingsAt, forecastOf}
 use Rattle.machine.specs.Step.{readyOf, stepOf, afterRun, saidRun, startedOf}
-use Rattle.machine.specs.Totals.{totalsOf}
+use Rattle.reckon.specs.Totals.{totalsOf}
 use Rattle.machine.specs.declared.Answer.{Answer}
 use Rattle.machine.specs.declared.Answer.the-variants.{Did, Idle}
 use Rattle.machine.specs.declared.Run.{Run}
-use Rattle.machine.specs.declared.reckon.Foretold.{Foretold}
-use Rattle.machine.specs.declared.reckon.Foretold.the-variants.{Ends, Endless as Never, Refused as RefusedForecast}
-use Rattle.machine.proofs.Demand.{forecast-holds, forecast-never}
+use Rattle.reckon.specs.declared.reckon.Foretold.{Foretold}
+use Rattle.reckon.specs.declared.reckon.Foretold.the-variants.{Ends, Endless as Never, Refused as RefusedForecast}
+use Rattle.reckon.proofs.Demand.{forecast-holds, forecast-never}
 use Rattle.machine.proofs.Lines.{dids, line-ends, line-never}
 use Rattle.promises.specs.Bench.{w5}
 use Rattle.promises.specs.Line.{Machine, after, said, lineOf, performed, Runs, Goes, LineRuns, ours, atOnce, madeUp, inventing, counting}

@@ -39,6 +39,9 @@ use Rattle.program.proofs.read_command.Reads as program-read-command-reads
 use Rattle.measure.proofs.width as measure-width
 use Rattle.measure.proofs.width.Kinds as measure-width-kinds
 use Rattle.measure.proofs.width.Reads as measure-width-reads
+use Rattle.measure.proofs.text_width as measure-text-width
+use Rattle.measure.proofs.text_width.Kinds as measure-text-width-kinds
+use Rattle.measure.proofs.text_width.Reads as measure-text-width-reads
 use Rattle.measure.proofs.fits as measure-fits
 use Rattle.measure.proofs.fits.Kinds as measure-fits-kinds
 use Rattle.measure.proofs.fits.Reads as measure-fits-reads
@@ -69,24 +72,24 @@ use Rattle.machine.proofs.Run.step.Reads as machine-Run-step-reads
 use Rattle.machine.proofs.Run.sound as machine-Run-sound
 use Rattle.machine.proofs.Run.sound.Kinds as machine-Run-sound-kinds
 use Rattle.machine.proofs.Run.sound.Reads as machine-Run-sound-reads
-use Rattle.machine.proofs.forecast as machine-forecast
-use Rattle.machine.proofs.forecast.Kinds as machine-forecast-kinds
-use Rattle.machine.proofs.forecast.Reads as machine-forecast-reads
+use Rattle.reckon.proofs.forecast as reckon-forecast
+use Rattle.reckon.proofs.forecast.Kinds as reckon-forecast-kinds
+use Rattle.reckon.proofs.forecast.Reads as reckon-forecast-reads
 use Rattle.machine.proofs.zeros as machine-zeros
 use Rattle.machine.proofs.zeros.Kinds as machine-zeros-kinds
 use Rattle.machine.proofs.zeros.Reads as machine-zeros-reads
-use Rattle.machine.proofs.totals.Totals.none as machine-totals-Totals-none
-use Rattle.machine.proofs.totals.Totals.none.Kinds as machine-totals-Totals-none-kinds
-use Rattle.machine.proofs.totals.Totals.none.Reads as machine-totals-Totals-none-reads
-use Rattle.machine.proofs.totals.Totals.cost as machine-totals-Totals-cost
-use Rattle.machine.proofs.totals.Totals.cost.Kinds as machine-totals-Totals-cost-kinds
-use Rattle.machine.proofs.totals.Totals.cost.Reads as machine-totals-Totals-cost-reads
-use Rattle.machine.proofs.totals.Totals.plus as machine-totals-Totals-plus
-use Rattle.machine.proofs.totals.Totals.plus.Kinds as machine-totals-Totals-plus-kinds
-use Rattle.machine.proofs.totals.Totals.plus.Reads as machine-totals-Totals-plus-reads
-use Rattle.machine.proofs.totals.Totals.times as machine-totals-Totals-times
-use Rattle.machine.proofs.totals.Totals.times.Kinds as machine-totals-Totals-times-kinds
-use Rattle.machine.proofs.totals.Totals.times.Reads as machine-totals-Totals-times-reads
+use Rattle.reckon.proofs.totals.Totals.none as reckon-totals-Totals-none
+use Rattle.reckon.proofs.totals.Totals.none.Kinds as reckon-totals-Totals-none-kinds
+use Rattle.reckon.proofs.totals.Totals.none.Reads as reckon-totals-Totals-none-reads
+use Rattle.reckon.proofs.totals.Totals.cost as reckon-totals-Totals-cost
+use Rattle.reckon.proofs.totals.Totals.cost.Kinds as reckon-totals-Totals-cost-kinds
+use Rattle.reckon.proofs.totals.Totals.cost.Reads as reckon-totals-Totals-cost-reads
+use Rattle.reckon.proofs.totals.Totals.plus as reckon-totals-Totals-plus
+use Rattle.reckon.proofs.totals.Totals.plus.Kinds as reckon-totals-Totals-plus-kinds
+use Rattle.reckon.proofs.totals.Totals.plus.Reads as reckon-totals-Totals-plus-reads
+use Rattle.reckon.proofs.totals.Totals.times as reckon-totals-Totals-times
+use Rattle.reckon.proofs.totals.Totals.times.Kinds as reckon-totals-Totals-times-kinds
+use Rattle.reckon.proofs.totals.Totals.times.Reads as reckon-totals-Totals-times-reads
 use Rattle.units.proofs.Steps.add as units-Steps-add
 use Rattle.units.proofs.Steps.add.Kinds as units-Steps-add-kinds
 use Rattle.units.proofs.Steps.add.Reads as units-Steps-add-reads
@@ -210,6 +213,10 @@ pub one-measure-width : (κs : Lifetimes.Lfts 1) (a : World.ArgsD measure-width.
     (s s′ : Clauses.AtExit (K.endedOf 1 measure-width-kinds.ps measure-width-kinds.r) κs) → measure-width-reads.Post κs a r s → measure-width-reads.Post κs a r′ s′ → r ≡ r′
 one-measure-width κs a r r′ s s′ h h′ = one h h′
 
+pub one-measure-text-width : (κs : Lifetimes.Lfts 1) (a : World.ArgsD measure-text-width.signature κs) (r r′ : World.ResD measure-text-width.signature κs)
+    (s s′ : Clauses.AtExit (K.endedOf 1 measure-text-width-kinds.ps measure-text-width-kinds.r) κs) → measure-text-width-reads.Post κs a r s → measure-text-width-reads.Post κs a r′ s′ → r ≡ r′
+one-measure-text-width κs a r r′ s s′ h h′ = one h h′
+
 pub one-measure-fits : (κs : Lifetimes.Lfts 0) (a : World.ArgsD measure-fits.signature κs) (r r′ : World.ResD measure-fits.signature κs)
     (s s′ : Clauses.AtExit (K.endedOf 0 measure-fits-kinds.ps measure-fits-kinds.r) κs) → measure-fits-reads.Post κs a r s → measure-fits-reads.Post κs a r′ s′ → r ≡ r′
 one-measure-fits κs a r r′ s s′ h h′ = one h h′
@@ -250,29 +257,29 @@ pub one-machine-Run-sound : (κs : Lifetimes.Lfts 0) (a : World.ArgsD machine-Ru
     (s s′ : Clauses.AtExit (K.endedOf 0 machine-Run-sound-kinds.ps machine-Run-sound-kinds.r) κs) → machine-Run-sound-reads.Post κs a r s → machine-Run-sound-reads.Post κs a r′ s′ → r ≡ r′
 one-machine-Run-sound κs a r r′ s s′ h h′ = one h h′
 
-pub one-machine-forecast : (κs : Lifetimes.Lfts 1) (a : World.ArgsD machine-forecast.signature κs) (r r′ : World.ResD machine-forecast.signature κs)
-    (s s′ : Clauses.AtExit (K.endedOf 1 machine-forecast-kinds.ps machine-forecast-kinds.r) κs) → machine-forecast-reads.Post κs a r s → machine-forecast-reads.Post κs a r′ s′ → r ≡ r′
-one-machine-forecast κs a r r′ s s′ h h′ = one h h′
+pub one-reckon-forecast : (κs : Lifetimes.Lfts 1) (a : World.ArgsD reckon-forecast.signature κs) (r r′ : World.ResD reckon-forecast.signature κs)
+    (s s′ : Clauses.AtExit (K.endedOf 1 reckon-forecast-kinds.ps reckon-forecast-kinds.r) κs) → reckon-forecast-reads.Post κs a r s → reckon-forecast-reads.Post κs a r′ s′ → r ≡ r′
+one-reckon-forecast κs a r r′ s s′ h h′ = one h h′
 
 pub one-machine-zeros : (κs : Lifetimes.Lfts 1) (a : World.ArgsD machine-zeros.signature κs) (r r′ : World.ResD machine-zeros.signature κs)
     (s s′ : Clauses.AtExit (K.endedOf 1 machine-zeros-kinds.ps machine-zeros-kinds.r) κs) → machine-zeros-reads.Post κs a r s → machine-zeros-reads.Post κs a r′ s′ → r ≡ r′
 one-machine-zeros κs a r r′ s s′ h h′ = one h h′
 
-pub one-machine-totals-Totals-none : (κs : Lifetimes.Lfts 0) (a : World.ArgsD machine-totals-Totals-none.signature κs) (r r′ : World.ResD machine-totals-Totals-none.signature κs)
-    (s s′ : Clauses.AtExit (K.endedOf 0 machine-totals-Totals-none-kinds.ps machine-totals-Totals-none-kinds.r) κs) → machine-totals-Totals-none-reads.Post κs a r s → machine-totals-Totals-none-reads.Post κs a r′ s′ → r ≡ r′
-one-machine-totals-Totals-none κs a r r′ s s′ h h′ = one h h′
+pub one-reckon-totals-Totals-none : (κs : Lifetimes.Lfts 0) (a : World.ArgsD reckon-totals-Totals-none.signature κs) (r r′ : World.ResD reckon-totals-Totals-none.signature κs)
+    (s s′ : Clauses.AtExit (K.endedOf 0 reckon-totals-Totals-none-kinds.ps reckon-totals-Totals-none-kinds.r) κs) → reckon-totals-Totals-none-reads.Post κs a r s → reckon-totals-Totals-none-reads.Post κs a r′ s′ → r ≡ r′
+one-reckon-totals-Totals-none κs a r r′ s s′ h h′ = one h h′
 
-pub one-machine-totals-Totals-cost : (κs : Lifetimes.Lfts 0) (a : World.ArgsD machine-totals-Totals-cost.signature κs) (r r′ : World.ResD machine-totals-Totals-cost.signature κs)
-    (s s′ : Clauses.AtExit (K.endedOf 0 machine-totals-Totals-cost-kinds.ps machine-totals-Totals-cost-kinds.r) κs) → machine-totals-Totals-cost-reads.Post κs a r s → machine-totals-Totals-cost-reads.Post κs a r′ s′ → r ≡ r′
-one-machine-totals-Totals-cost κs a r r′ s s′ h h′ = one h h′
+pub one-reckon-totals-Totals-cost : (κs : Lifetimes.Lfts 0) (a : World.ArgsD reckon-totals-Totals-cost.signature κs) (r r′ : World.ResD reckon-totals-Totals-cost.signature κs)
+    (s s′ : Clauses.AtExit (K.endedOf 0 reckon-totals-Totals-cost-kinds.ps reckon-totals-Totals-cost-kinds.r) κs) → reckon-totals-Totals-cost-reads.Post κs a r s → reckon-totals-Totals-cost-reads.Post κs a r′ s′ → r ≡ r′
+one-reckon-totals-Totals-cost κs a r r′ s s′ h h′ = one h h′
 
-pub one-machine-totals-Totals-plus : (κs : Lifetimes.Lfts 0) (a : World.ArgsD machine-totals-Totals-plus.signature κs) (r r′ : World.ResD machine-totals-Totals-plus.signature κs)
-    (s s′ : Clauses.AtExit (K.endedOf 0 machine-totals-Totals-plus-kinds.ps machine-totals-Totals-plus-kinds.r) κs) → machine-totals-Totals-plus-reads.Post κs a r s → machine-totals-Totals-plus-reads.Post κs a r′ s′ → r ≡ r′
-one-machine-totals-Totals-plus κs a r r′ s s′ h h′ = one h h′
+pub one-reckon-totals-Totals-plus : (κs : Lifetimes.Lfts 0) (a : World.ArgsD reckon-totals-Totals-plus.signature κs) (r r′ : World.ResD reckon-totals-Totals-plus.signature κs)
+    (s s′ : Clauses.AtExit (K.endedOf 0 reckon-totals-Totals-plus-kinds.ps reckon-totals-Totals-plus-kinds.r) κs) → reckon-totals-Totals-plus-reads.Post κs a r s → reckon-totals-Totals-plus-reads.Post κs a r′ s′ → r ≡ r′
+one-reckon-totals-Totals-plus κs a r r′ s s′ h h′ = one h h′
 
-pub one-machine-totals-Totals-times : (κs : Lifetimes.Lfts 0) (a : World.ArgsD machine-totals-Totals-times.signature κs) (r r′ : World.ResD machine-totals-Totals-times.signature κs)
-    (s s′ : Clauses.AtExit (K.endedOf 0 machine-totals-Totals-times-kinds.ps machine-totals-Totals-times-kinds.r) κs) → machine-totals-Totals-times-reads.Post κs a r s → machine-totals-Totals-times-reads.Post κs a r′ s′ → r ≡ r′
-one-machine-totals-Totals-times κs a r r′ s s′ h h′ = one h h′
+pub one-reckon-totals-Totals-times : (κs : Lifetimes.Lfts 0) (a : World.ArgsD reckon-totals-Totals-times.signature κs) (r r′ : World.ResD reckon-totals-Totals-times.signature κs)
+    (s s′ : Clauses.AtExit (K.endedOf 0 reckon-totals-Totals-times-kinds.ps reckon-totals-Totals-times-kinds.r) κs) → reckon-totals-Totals-times-reads.Post κs a r s → reckon-totals-Totals-times-reads.Post κs a r′ s′ → r ≡ r′
+one-reckon-totals-Totals-times κs a r r′ s s′ h h′ = one h h′
 
 pub one-units-Steps-add : (κs : Lifetimes.Lfts 0) (a : World.ArgsD units-Steps-add.signature κs) (r r′ : World.ResD units-Steps-add.signature κs)
     (s s′ : Clauses.AtExit (K.endedOf 0 units-Steps-add-kinds.ps units-Steps-add-kinds.r) κs) → units-Steps-add-reads.Post κs a r s → units-Steps-add-reads.Post κs a r′ s′ → r .0 ≡ r′ .0

@@ -10,10 +10,10 @@ use Rattle.packet.specs.declared.read.Reading.the-variants.{Query, Reset, Norma
 use Rattle.judge.specs.Verdict.{judgeOf}
 use Rattle.judge.specs.declared.Verdict.{Verdict}
 use Rattle.judge.specs.declared.Verdict.the-variants.{Refused as RefusedBody}
-use Rattle.machine.specs.Forecast.{forecastOf}
-use Rattle.machine.specs.Totals.{totalsOf}
-use Rattle.machine.specs.declared.reckon.Foretold.{Foretold}
-use Rattle.machine.specs.declared.reckon.Foretold.the-variants.{Ends}
+use Rattle.reckon.specs.Forecast.{forecastOf}
+use Rattle.reckon.specs.Totals.{totalsOf}
+use Rattle.reckon.specs.declared.reckon.Foretold.{Foretold}
+use Rattle.reckon.specs.declared.reckon.Foretold.the-variants.{Ends}
 use Rattle.sign.specs.Reset.{powerOn}
 use Rattle.sign.specs.Tell.{saysOf}
 

@@ -19,14 +19,14 @@ use Rattle.course.specs.Steps.{saysOf, setsOf}
 use Rattle.course.specs.Tree.{Block, stop, one, loop, unrolled}
 use Rattle.course.specs.Price.{sumBy, scans, millis, leavesOf}
 use Rattle.course.proofs.Programs.{treeIn}
-use Rattle.machine.specs.Forecast.{forecastOf}
+use Rattle.reckon.specs.Forecast.{forecastOf}
 use Rattle.machine.specs.Step.{stepOf, startedOf}
-use Rattle.machine.specs.Totals.{totalsOf}
+use Rattle.reckon.specs.Totals.{totalsOf}
 use Rattle.machine.specs.declared.Answer.{Answer}
 use Rattle.machine.specs.declared.Answer.the-variants.{Did, Idle}
 use Rattle.machine.specs.declared.Run.{Run}
-use Rattle.machine.specs.declared.reckon.Foretold.{Foretold}
-use Rattle.machine.specs.declared.reckon.Foretold.the-variants.{Ends, Endless as Never, Refused as RefusedForecast}
+use Rattle.reckon.specs.declared.reckon.Foretold.{Foretold}
+use Rattle.reckon.specs.declared.reckon.Foretold.the-variants.{Ends, Endless as Never, Refused as RefusedForecast}
 
 -- what a machine is: its runs, and what it does with them
 pub record Machine (R : Type 0) : Type 0 where

@@ -9,9 +9,9 @@ use Rattle.perform.specs.declared.price.Performed.{Performed}
 use Rattle.course.specs.Price.{sumBy, scans, millis}
 use Rattle.course.specs.Tree.{unrolled}
 use Rattle.course.proofs.Programs.{treeIn}
-use Rattle.machine.specs.Forecast.{forecastOf}
-use Rattle.machine.specs.Totals.{totalsOf}
-use Rattle.machine.specs.declared.reckon.Foretold.the-variants.{Ends}
+use Rattle.reckon.specs.Forecast.{forecastOf}
+use Rattle.reckon.specs.Totals.{totalsOf}
+use Rattle.reckon.specs.declared.reckon.Foretold.the-variants.{Ends}
 use Rattle.machine.proofs.Lines.{dids}
 use Rattle.sign.specs.Driver.{Event, afterEvents, saidEvents, stepsIn}
 use Rattle.sign.specs.declared.Sign.{Sign}

@@ -1,6 +1,6 @@
 -- Laws of a text's width: one byte more, and how wide a byte can be.
 use Prim.Native.Nat.{ℕ, _+_, _-_, _*_, _≤_, _<_, min}
-use mathlib.Core.Path.{_≡_, refl, sym, ap, _∙_}
+use mathlib.Core.Path.{_≡_, sym, ap, _∙_}
 use mathlib.Core.Bool.{Bool, true, false}
 use mathlib.Core.List.{List, [], _∷_}
 use native.Mathlib.Omega.{arith}
@@ -10,7 +10,7 @@ use lib.Seq.{take-all}
 use Rattle.basis.specs.Choice.{when}
 use Rattle.basis.proofs.Lists.{drop-next}
 use Rattle.program.specs.Bytes.{tilde}
-use Rattle.measure.specs.Width.{fontColumns, columnsOf, fontOf, widthFrom, widest}
+use Rattle.measure.specs.Width.{columnsOf, fontOf, widthFrom, widest}
 
 pick-most : (t : Bool) (a b n : ℕ) → a ≤ n → b ≤ n → when t a b ≤ n
 pick-most true a b n h k = h

@@ -5,7 +5,7 @@ use mathlib.Core.Path.{_≡_, refl, sym, ap, _∙_}
 use native.Mathlib.Omega.{arith}
 use Rattle.basis.specs.Bytes.{sum}
 use Rattle.packet.specs.Wire.{packetOf, replyOf}
-use Rattle.packet.specs.Read.{readOf}
+use Rattle.reader.specs.Read.{readOf}
 use Rattle.program.specs.Command.{readOf as commandAt}
 use Rattle.perform.specs.Price.{answerOf}
 use Rattle.perform.specs.Settings.{soundOf}

@@ -6,9 +6,9 @@ use contract.Lifetimes
 use denote.Triple.Clauses
 use borrow.Fn.World
 use borrow.Fn.Kinds as K
-use Rattle.packet.proofs.read_packet as packet-read-packet
-use Rattle.packet.proofs.read_packet.Kinds as packet-read-packet-kinds
-use Rattle.packet.proofs.read_packet.Reads as packet-read-packet-reads
+use Rattle.reader.proofs.read_packet as reader-read-packet
+use Rattle.reader.proofs.read_packet.Kinds as reader-read-packet-kinds
+use Rattle.reader.proofs.read_packet.Reads as reader-read-packet-reads
 use Rattle.packet.proofs.write_query as packet-write-query
 use Rattle.packet.proofs.write_query.Kinds as packet-write-query-kinds
 use Rattle.packet.proofs.write_query.Reads as packet-write-query-reads
@@ -30,6 +30,9 @@ use Rattle.packet.proofs.write_reply.Reads as packet-write-reply-reads
 use Rattle.packet.proofs.is_last as packet-is-last
 use Rattle.packet.proofs.is_last.Kinds as packet-is-last-kinds
 use Rattle.packet.proofs.is_last.Reads as packet-is-last-reads
+use Rattle.packet.proofs.sum_of as packet-sum-of
+use Rattle.packet.proofs.sum_of.Kinds as packet-sum-of-kinds
+use Rattle.packet.proofs.sum_of.Reads as packet-sum-of-reads
 use Rattle.packet.proofs.checksum as packet-checksum
 use Rattle.packet.proofs.checksum.Kinds as packet-checksum-kinds
 use Rattle.packet.proofs.checksum.Reads as packet-checksum-reads
@@ -164,9 +167,9 @@ use Rattle.sign.proofs.repeat.Reads as sign-repeat-reads
 one : {A : Type 0} {x y z : A} → x ≡ z → y ≡ z → x ≡ y
 one h k = h ∙ sym k
 
-pub one-packet-read-packet : (κs : Lifetimes.Lfts 1) (a : World.ArgsD packet-read-packet.signature κs) (r r′ : World.ResD packet-read-packet.signature κs)
-    (s s′ : Clauses.AtExit (K.endedOf 1 packet-read-packet-kinds.ps packet-read-packet-kinds.r) κs) → packet-read-packet-reads.Post κs a r s → packet-read-packet-reads.Post κs a r′ s′ → r ≡ r′
-one-packet-read-packet κs a r r′ s s′ h h′ = one h h′
+pub one-reader-read-packet : (κs : Lifetimes.Lfts 1) (a : World.ArgsD reader-read-packet.signature κs) (r r′ : World.ResD reader-read-packet.signature κs)
+    (s s′ : Clauses.AtExit (K.endedOf 1 reader-read-packet-kinds.ps reader-read-packet-kinds.r) κs) → reader-read-packet-reads.Post κs a r s → reader-read-packet-reads.Post κs a r′ s′ → r ≡ r′
+one-reader-read-packet κs a r r′ s s′ h h′ = one h h′
 
 pub one-packet-write-query : (κs : Lifetimes.Lfts 1) (a : World.ArgsD packet-write-query.signature κs) (r r′ : World.ResD packet-write-query.signature κs)
     (s s′ : Clauses.AtExit (K.endedOf 1 packet-write-query-kinds.ps packet-write-query-kinds.r) κs) → packet-write-query-reads.Post κs a r s → packet-write-query-reads.Post κs a r′ s′
@@ -200,6 +203,10 @@ one-packet-write-reply κs a r r′ s s′ h h′ = (one (h .answered) (h′ .an
 pub one-packet-is-last : (κs : Lifetimes.Lfts 0) (a : World.ArgsD packet-is-last.signature κs) (r r′ : World.ResD packet-is-last.signature κs)
     (s s′ : Clauses.AtExit (K.endedOf 0 packet-is-last-kinds.ps packet-is-last-kinds.r) κs) → packet-is-last-reads.Post κs a r s → packet-is-last-reads.Post κs a r′ s′ → r ≡ r′
 one-packet-is-last κs a r r′ s s′ h h′ = one h h′
+
+pub one-packet-sum-of : (κs : Lifetimes.Lfts 1) (a : World.ArgsD packet-sum-of.signature κs) (r r′ : World.ResD packet-sum-of.signature κs)
+    (s s′ : Clauses.AtExit (K.endedOf 1 packet-sum-of-kinds.ps packet-sum-of-kinds.r) κs) → packet-sum-of-reads.Post κs a r s → packet-sum-of-reads.Post κs a r′ s′ → r ≡ r′
+one-packet-sum-of κs a r r′ s s′ h h′ = one h h′
 
 pub one-packet-checksum : (κs : Lifetimes.Lfts 1) (a : World.ArgsD packet-checksum.signature κs) (r r′ : World.ResD packet-checksum.signature κs)
     (s s′ : Clauses.AtExit (K.endedOf 1 packet-checksum-kinds.ps packet-checksum-kinds.r) κs) → packet-checksum-reads.Post κs a r s → packet-checksum-reads.Post κs a r′ s′ → r ≡ r′

@@ -1,6 +1,6 @@
 -- Demand 3, word for word: a program without an endless ending, started with a sign in range and stepped, is Ready after exactly
 -- the steps of its forecast and not sooner; the scans and milliseconds of those steps add up to it. An endless one is forecast so.
-use Prim.Native.Nat.{ℕ, _^_, _≤_, _<_}
+use Prim.Native.Nat.{ℕ}
 use mathlib.Core.List.{List}
 use mathlib.Core.Bool.{true}
 use mathlib.Core.Path.{_≡_, refl, sym, ap, _∙_}
@@ -18,12 +18,11 @@ use Rattle.course.specs.Price.{sumBy, ones, scans, millis, priceOf}
 use Rattle.course.proofs.Agrees.{Cares, price-agree, ones-care, scans-care, millis-care}
 use Rattle.course.proofs.Programs.{treeIn}
 use Rattle.course.proofs.Theorem.{finite-ends}
-use Rattle.reckon.specs.Forecast.{settingsAt, talliesOf, forecastOf}
-use Rattle.machine.specs.Step.{startedOf}
+use Rattle.reckon.specs.Forecast.{settingsAt, forecastOf}
 use Rattle.reckon.specs.Totals.{totalsOf}
 use Rattle.reckon.specs.declared.reckon.Foretold.the-variants.{Ends, Endless as Never}
 use Rattle.reckon.proofs.Forecasts.{in-range, settings-sound, tallies-price}
-use Rattle.machine.proofs.Ranges.{Ranged, ranged}
+use Rattle.machine.proofs.Ranges.{ranged}
 use Rattle.reckon.proofs.Small.{scans-fit, millis-fit}
 use Rattle.reckon.proofs.Sums.{totals-are}
 

@@ -1,13 +1,12 @@
 -- The forecast adds up: the sums over the steps of a started program until it is Ready are its price by two readings.
 use Prim.Native.Nat.{ℕ, zero, suc, _+_, _≤_, _<_}
 use mathlib.Core.List.{List, [], _∷_}
-use mathlib.Core.Bool.{Bool, true, false}
+use mathlib.Core.Bool.{true, false}
 use mathlib.Core.Path.{_≡_, refl, sym, ap, _∙_}
 use native.Mathlib.Omega.{arith}
-use lib.Dec.{eqb, ltb}
+use lib.Dec.{eqb}
 use lib.ListN.{length}
 use borrow.Author.Tests.{eq-eqb, ne-eqb}
-use Rattle.basis.specs.Choice.{when}
 use Rattle.basis.proofs.Choices.{when-true, when-false}
 use Rattle.basis.proofs.Tests.{tests}
 use Rattle.units.specs.Units.{capped}
@@ -23,12 +22,11 @@ use Rattle.course.proofs.Programs.{treeIn}
 use Rattle.course.proofs.Theorem.{finite-ends}
 use Rattle.machine.specs.Step.{readyOf, stepOf, afterRun, saidRun, startedOf}
 use Rattle.reckon.specs.Forecast.{measured, tally, mostSteps, talliesOf, settingsAt, outOfRange, byVerdict, forecastOf}
-use Rattle.reckon.specs.Totals.{totalsOf, pricesOf}
+use Rattle.reckon.specs.Totals.{pricesOf}
 use Rattle.machine.specs.declared.Answer.{Answer}
 use Rattle.machine.specs.declared.Answer.the-variants.{Did}
 use Rattle.machine.specs.declared.Run.{Run}
 use Rattle.reckon.specs.declared.reckon.Foretold.the-variants.{Refused}
-use Rattle.reckon.specs.declared.totals.Totals.{Totals}
 use Rattle.machine.proofs.Lines.{BusyRun, dids, line-ends}
 use Rattle.machine.proofs.Ranges.{sounds}
 use Rattle.reckon.proofs.Sums.{totals-are}

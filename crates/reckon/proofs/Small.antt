@@ -1,29 +1,28 @@
 -- Totals stay below 2^32, so no unit is ever capped: each command of a body costs at most 5,112 scans and 170,400 ms.
-use Prim.Native.Nat.{ℕ, zero, suc, _+_, _-_, _*_, _/_, _^_, _≤_, _<_, min}
+use Prim.Native.Nat.{ℕ, zero, suc, _+_, _*_, _^_, _≤_, _<_}
 use mathlib.Core.List.{List, [], _∷_}
 use mathlib.Core.Bool.{Bool, true, false}
-use mathlib.Core.Path.{_≡_, refl, sym, ap, _∙_, subst}
+use mathlib.Core.Path.{_≡_, refl}
 use native.Mathlib.Omega.{arith}
 use native.Mathlib.Nat.{mul-le-mul-left, mul-le-mul-right, div-le-of-le-mul}
 use lib.Dec.{eqb}
 use lib.ListN.{length, take, drop, length-take}
 use Rattle.basis.specs.Choice.{when}
-use Rattle.units.specs.Units.{capped, sumOf, scansOf as scansEach, roundedUp, millisOf as millisAt}
-use Rattle.measure.specs.Width.{widthOf, fitsOf}
+use Rattle.units.specs.Units.{sumOf, scansOf as scansEach, roundedUp, millisOf as millisAt}
+use Rattle.measure.specs.Width.{fitsOf}
 use Rattle.program.specs.declared.Kind.{Kind}
 use Rattle.program.specs.declared.Kind.the-variants.{II, IA, IB, S, L, E, F, R, XS, XF, P, Scans, W, XD, XB, Y}
-use Rattle.program.proofs.Ranges.{formOf, InRange}
 use Rattle.measure.proofs.Widths.{width-most}
 use Rattle.perform.specs.Price.{doingOf, shiftsOf, scansOf, millisOf, answerOf}
-use Rattle.perform.specs.Settings.{soundOf as settingsSound, behindOf}
+use Rattle.perform.specs.Settings.{soundOf as settingsSound}
 use Rattle.perform.specs.declared.price.Doing.{Doing}
 use Rattle.perform.specs.declared.price.Doing.the-variants.{Shows, Streams, Waits, Rests}
 use Rattle.perform.specs.declared.settings.Settings.{Settings}
 use Rattle.perform.specs.declared.price.Performed.{Performed}
-use Rattle.judge.specs.Token.{Act, Part, act, rep, close, Tok, good, get}
+use Rattle.judge.specs.Token.{Act, Part, act, rep, close, good, get}
 use Rattle.judge.specs.Verdict.{judgeOf}
 use Rattle.judge.specs.declared.Verdict.the-variants.{Finite}
-use Rattle.judge.proofs.Values.{Acts, get-act}
+use Rattle.judge.proofs.Values.{get-act}
 use Rattle.course.specs.Steps.{saysOf, setsOf}
 use Rattle.course.specs.Tree.{Block, stop, one, loop, flat}
 use Rattle.course.specs.Price.{ones, scans, millis, leavesOf, priceOf, firstThen}
@@ -31,7 +30,7 @@ use Rattle.course.proofs.Programs.{treeIn, program}
 use Rattle.course.proofs.Runs.{At, past, at-past}
 use Rattle.course.proofs.Theorem.{finite-ends, finite-stands}
 use Rattle.machine.proofs.Commands.{range-byte}
-use Rattle.machine.proofs.Ranges.{behind-sound, Ranged, ranged}
+use Rattle.machine.proofs.Ranges.{behind-sound, ranged}
 
 shifts-most : (w : ℕ) → w ≤ 756 → shiftsOf w ≤ 852
 shifts-most w h = go (eqb w 0)

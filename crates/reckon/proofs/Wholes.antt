@@ -1,13 +1,12 @@
 -- The reckoning, turn by turn: what is summed so far and the price of what is left always make up the price of the whole.
-use Prim.Native.Nat.{ℕ, zero, suc, _+_, _-_, _*_, _≤_, _<_}
+use Prim.Native.Nat.{ℕ, zero, suc, _+_, _-_, _≤_, _<_}
 use mathlib.Core.List.{List, [], _∷_}
 use mathlib.Core.Path.{_≡_, refl, sym, ap, _∙_, subst}
 use native.Mathlib.Omega.{arith}
 use lib.ListN.{length}
-use Rattle.units.specs.Units.{capped}
 use Rattle.perform.specs.Price.{answerOf}
 use Rattle.perform.specs.declared.settings.Settings.{Settings}
-use Rattle.judge.specs.Token.{Part, act, rep, close, Tok, good, bad, sizeOf, get, chain, tokensOf}
+use Rattle.judge.specs.Token.{Part, act, rep, close, Tok, good, sizeOf, get, chain, tokensOf}
 use Rattle.judge.specs.Verdict.{judgeOf}
 use Rattle.judge.specs.declared.Verdict.the-variants.{Finite}
 use Rattle.judge.proofs.Tokens.{tokens-first, get-two}
@@ -15,13 +14,12 @@ use Rattle.course.specs.Steps.{saysOf, setsOf}
 use Rattle.course.specs.Tree.{Block, stop, one, loop, flat}
 use Rattle.course.specs.Price.{ones, scans, millis, leavesOf, priceOf}
 use Rattle.course.proofs.Accepts.{Depth}
-use Rattle.course.proofs.Changes.{leaves-twice}
 use Rattle.judge.proofs.Values.{get-loop}
 use Rattle.course.proofs.Programs.{treeIn, program}
 use Rattle.course.proofs.Runs.{At, past, at-past}
 use Rattle.course.proofs.Theorem.{finite-stands}
-use Rattle.reckon.specs.Reckon.{setsPart, addedOf, strideOf, passOf, loopedOf, turnOf}
-use Rattle.reckon.specs.Totals.{totalsOf, noneOf, costOf, plusOf, timesOf, pricesOf}
+use Rattle.reckon.specs.Reckon.{addedOf, strideOf, passOf, loopedOf, turnOf}
+use Rattle.reckon.specs.Totals.{noneOf, costOf, plusOf, timesOf, pricesOf}
 use Rattle.reckon.specs.declared.reckon.Reckoned.{Reckoned}
 use Rattle.reckon.specs.declared.totals.Totals.{Totals}
 use Rattle.reckon.proofs.Sums.{totals-are, Within, plus-within, plus-none, plus-one, plus-loop}

@@ -3,7 +3,7 @@
 -- scan setting out of range, before 21 to 28".
 use Prim.Native.Nat.{ℕ, zero, suc, _+_}
 use mathlib.Core.List.{List}
-use mathlib.Core.Bool.{Bool, true, false}
+use mathlib.Core.Bool.{Bool, false}
 use lib.Dec.{eqb, ltb}
 use Rattle.basis.specs.Choice.{when, _or_}
 use Rattle.units.specs.Units.{capped}

@@ -20,7 +20,6 @@ ghost use Rattle.program.specs.declared.Reading.the-variants.{Good};
 ghost use Rattle.judge.specs.Token.{get, tokensOf};
 ghost use Rattle.judge.specs.Verdict.{judgeOf};
 ghost use Rattle.judge.specs.declared.Verdict.the-variants.{Finite};
-ghost use Rattle.judge.specs.declared.Role.the-variants.{Repeat};
 ghost use Rattle.judge.specs.Token.{roleOf};
 ghost use Rattle.reckon.specs.Forecast.{forecastOf, pricedOf};
 ghost use Rattle.reckon.specs.Reckon.{addedOf, plainOf, strideOf, passOf, loopedOf, turnOf};

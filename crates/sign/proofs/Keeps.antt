@@ -14,10 +14,10 @@ use Rattle.basis.specs.Bytes.{laid}
 use Rattle.basis.specs.Choice.{when, _and_, _or_}
 use Rattle.basis.proofs.Choices.{and-parts, and-true, when-true, when-false}
 use Rattle.basis.proofs.Laid.{length-laid}
-use Rattle.packet.specs.Read.{readOf}
+use Rattle.reader.specs.Read.{readOf}
 use Rattle.packet.specs.Reply.{isLast}
-use Rattle.packet.specs.declared.read.Reading.{Reading}
-use Rattle.packet.specs.declared.read.Reading.the-variants.{Query, Reset, Normal, Refused}
+use Rattle.reader.specs.declared.read.Reading.{Reading}
+use Rattle.reader.specs.declared.read.Reading.the-variants.{Query, Reset, Normal, Refused}
 use Rattle.perform.specs.Settings.{soundOf as settingsSound}
 use Rattle.perform.specs.declared.settings.Settings.{Settings}
 use Rattle.judge.specs.Verdict.{judgeOf}

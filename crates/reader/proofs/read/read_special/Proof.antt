@@ -1,7 +1,7 @@
 -- `read_special` answers by the fields: each return by the tests that led to it; number 11 asks of 10h what it never says.
 use Rattle.basis.proofs.Tests.{tests}
-use Rattle.packet.proofs.read.read_special.Statement.{statement}
-use Rattle.packet.proofs.read.read_special.Tie as tie
+use Rattle.reader.proofs.read.read_special.Statement.{statement}
+use Rattle.reader.proofs.read.read_special.Tie as tie
 
 returns : tie.Need-returns
 returns c = search tests

@@ -1,7 +1,7 @@
 use Rattle.basis.proofs.Tests.{tests}
 use borrow.Author.Needs.{needs}
-use Rattle.packet.proofs.read.read_fields.Statement.{statement}
-use Rattle.packet.proofs.read.read_fields.Tie as tie
+use Rattle.reader.proofs.read.read_fields.Statement.{statement}
+use Rattle.reader.proofs.read.read_fields.Tie as tie
 
 read-special-requires : tie.Need-read-special-requires
 read-special-requires c κs = search needs

@@ -1,11 +1,11 @@
 use Rattle.basis.proofs.Tests.{tests}
 use native.Mathlib.Omega.{arith}
 use mathlib.Core.Path.{_∙_, sym}
-use Rattle.packet.proofs.Frame.{frame-right}
-use Rattle.packet.specs.Read.{readOf}
+use Rattle.reader.proofs.Frame.{frame-right}
+use Rattle.reader.specs.Read.{readOf}
 use borrow.Author.Needs.{needs}
-use Rattle.packet.proofs.read.read_packet.Statement.{statement}
-use Rattle.packet.proofs.read.read_packet.Tie as tie
+use Rattle.reader.proofs.read.read_packet.Statement.{statement}
+use Rattle.reader.proofs.read.read_packet.Tie as tie
 
 returns : tie.Need-returns
 unfolding readOf

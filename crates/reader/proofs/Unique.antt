@@ -1,5 +1,5 @@
 -- Accepted packets of equal fields are equal bytes: what the reader accepts is the one packet of its fields.
-use Prim.Native.Nat.{ℕ, zero, suc, _+_, _-_, _*_, _/_, _%_, _≤_, _<_}
+use Prim.Native.Nat.{ℕ, zero, suc, _+_, _-_, _/_, _%_, _≤_, _<_}
 use mathlib.Core.Path.{_≡_, refl, sym, ap, _∙_}
 use mathlib.Core.List.{List, [], _∷_, _++_}
 use mathlib.Core.Bool.{Bool, true, false, not}
@@ -10,26 +10,15 @@ use lib.Dec.{eqb, ltb, leb}
 use borrow.Author.Tests.{ltb-false, leb-false, eqb-true, eqb-false, not-false}
 use Rattle.basis.specs.Bytes.{sum, Bytes}
 use Rattle.basis.specs.Choice.{when}
-use Rattle.basis.specs.Rows.{Row, firstOf, Rising, Passed}
-use Rattle.basis.proofs.Bytes.{byte-at, two-behind, five-front}
+use Rattle.basis.specs.Rows.{firstOf, Rising, Passed}
+use Rattle.basis.proofs.Bytes.{five-front}
 use Rattle.basis.proofs.Choices.{when-false}
 use Rattle.basis.proofs.Rows.{all-passed}
-use Rattle.basis.proofs.Sums.{sum-append}
-use Rattle.packet.specs.Wire.{checkOf, sealed, fifthOf, frontOf, packetOf, queryOf, resetOf}
-use Rattle.packet.specs.Read.{readOf, rowsOf, fieldRows, refusedOr, named, wrongPlace}
-use Rattle.packet.specs.declared.read.Reading.{Reading}
-use Rattle.packet.specs.declared.read.Reading.the-variants.{Query, Reset, Normal, Refused}
-
--- two bytes behind a front that bring the sum to 0, the first of them 00h, are its seal
-pub only-seal : (b : List ℕ) (k : ℕ) → Bytes b → length b ≡ k + 2 → getD b k 0 ≡ 0 → sum b % 256 ≡ 0 → b ≡ sealed (take k b)
-unfolding sum
-only-seal b k bytes size ended balance =
-    let front = take k b in
-    let c = getD b (suc k) 0 in
-    let whole : b ≡ front ++ 0 ∷ c ∷ [] = two-behind b k size ∙ ap (λ (z : ℕ). front ++ z ∷ c ∷ []) ended in
-    let total : sum b ≡ sum front + (0 + (c + 0)) = ap sum whole ∙ sum-append front (0 ∷ c ∷ []) in
-    let check : c ≡ checkOf front = omega (arith, byte-at b (suc k) bytes) in
-    whole ∙ ap (λ (z : ℕ). front ++ 0 ∷ z ∷ []) check
+use Rattle.packet.proofs.Seals.{only-seal}
+use Rattle.packet.specs.Wire.{sealed, fifthOf, frontOf, packetOf, queryOf, resetOf}
+use Rattle.reader.specs.Read.{readOf, rowsOf, fieldRows, refusedOr, named, wrongPlace}
+use Rattle.reader.specs.declared.read.Reading.{Reading}
+use Rattle.reader.specs.declared.read.Reading.the-variants.{Query, Reset, Normal, Refused}
 
 -- a frame that numbers 1 to 8 let pass
 pub record Framed (mid : ℕ) (b : List ℕ) : Type 0 where

@@ -1,14 +1,14 @@
 -- Reading a packet: the table of numbers 1 to 11 in 01, and the fields of what none of them refuses.
 use Prim.Native.Nat.{ℕ, zero, suc, _+_, _-_, _/_, _%_}
-use mathlib.Core.List.{List, [], _∷_, _++_}
+use mathlib.Core.List.{List, [], _∷_}
 use mathlib.Core.Bool.{Bool, not}
 use lib.ListN.{length, getD}
 use lib.Dec.{eqb, ltb, leb}
 use Rattle.basis.specs.Bytes.{sum}
 use Rattle.basis.specs.Choice.{when, _and_, _or_}
 use Rattle.basis.specs.Rows.{Row, _if_, firstOf}
-use Rattle.packet.specs.declared.read.Reading.{Reading}
-use Rattle.packet.specs.declared.read.Reading.the-variants.{Query, Reset, Normal, Refused}
+use Rattle.reader.specs.declared.read.Reading.{Reading}
+use Rattle.reader.specs.declared.read.Reading.the-variants.{Query, Reset, Normal, Refused}
 
 -- 40h and 41h are the only IDs above 3Fh that number 8 lets pass
 abbrev pub isNormal : ℕ → Bool

@@ -5,18 +5,10 @@ use mathlib.Core.List.{List}
 use lib.ListN.{length, getD}
 use Rattle.basis.specs.Bytes.{sum}
 use Rattle.basis.proofs.Tests.{tests}
-use Rattle.packet.specs.Read.{readOf, fieldsOf}
-use Rattle.packet.specs.Reply.{heardOf, statusOf}
-use Rattle.packet.specs.Wire.{turned}
+use Rattle.reader.specs.Read.{readOf, fieldsOf}
 
 pub frame-right : (mid : ℕ) (b : List ℕ) → 7 ≤ length b → length b ≤ 21 → getD b 2 0 ≡ length b → sum b % 256 ≡ 0
     → getD b 0 0 ≡ mid → getD b 1 0 ≡ 0x7F → getD b (length b - 2) 0 ≡ 0 → getD b 3 0 ≤ 0x41
     → readOf mid b ≡ fieldsOf (getD b 3 0) (getD b 4 0) (length b)
 unfolding readOf
 frame-right mid b least most count balanced to-it marked ended known = search tests
-
--- a reply's frame that is right is read by the three bytes that tell
-pub reply-right : (mid : ℕ) (b : List ℕ) → length b ≡ 8 → sum b % 256 ≡ 0 → getD b 0 0 ≡ turned mid → getD b 1 0 ≡ 0x7F
-    → getD b 2 0 ≡ 8 → getD b 6 0 ≡ 0 → heardOf mid b ≡ statusOf (getD b 3 0) (getD b 4 0) (getD b 5 0)
-unfolding heardOf
-reply-right mid b size balanced from-it marked count ended = search tests

@@ -1,8 +1,8 @@
 // Reads a packet's bytes ("The packet", numbers 1 to 11).
-use crate::sum::sum_of;
+use packet::sum_of;
 ghost use mathlib.Core.Path.{_≡_};
 ghost use Prim.Native.Nat.{_<_, _≤_};
-ghost use Rattle.packet.specs.Read.{readOf, fieldsOf};
+ghost use Rattle.reader.specs.Read.{readOf, fieldsOf};
 
 // What a sign reads off the bytes that came.
 pub enum Reading {

@@ -1,36 +1,19 @@
 -- What was written reads back as its fields, for every MID, whatever the buffer held before.
-use Prim.Native.Nat.{ℕ, zero, suc, _+_, _-_, _*_, _/_, _%_, _≤_, _<_, min}
+use Prim.Native.Nat.{ℕ, _+_, _-_, _/_, _%_, _≤_, _<_}
 use mathlib.Core.Path.{_≡_, refl, sym, ap, _∙_}
-use mathlib.Core.List.{List, [], _∷_, _++_}
-use mathlib.Core.Bool.{Bool, true, false}
+use mathlib.Core.List.{List, [], _∷_}
 use mathlib.Core.Logic.{dite}
 use native.Mathlib.Decide.{decLt}
 use native.Mathlib.Omega.{arith}
-use lib.ListN.{length, take, drop, getD, length-append}
-use lib.Seq.{getD-at, take-append-le, take-length}
-use Rattle.basis.specs.Bytes.{sum, laid}
-use Rattle.basis.specs.Rows.{Row, firstOf}
-use Rattle.basis.proofs.Laid.{take-laid, drop-laid}
-use Rattle.basis.proofs.Sums.{sum-append}
+use lib.ListN.{length, getD}
+use lib.Seq.{getD-at}
 use Rattle.basis.proofs.Tests.{tests}
-use Rattle.packet.specs.Wire.{checkOf, sealed, fifthOf, frontOf, packetOf, queryOf, resetOf, totalOf, partOf, packetAt}
-use Rattle.packet.specs.Read.{readOf, fieldsOf}
-use Rattle.packet.specs.Write.{Writes, answerOf, bufferOf}
-use Rattle.packet.specs.declared.read.Reading.the-variants.{Query, Reset, Normal}
-use Rattle.packet.specs.declared.write.Written.the-variants.{Wrote}
-use Rattle.packet.proofs.Frame.{frame-right}
+use Rattle.packet.specs.Wire.{checkOf, fifthOf, frontOf, packetOf, queryOf, resetOf, totalOf, partOf, packetAt}
+use Rattle.reader.specs.Read.{readOf, fieldsOf}
+use Rattle.reader.specs.declared.read.Reading.the-variants.{Query, Reset, Normal}
+use Rattle.reader.proofs.Frame.{frame-right}
 use Rattle.packet.proofs.Parts.{packet-length, part-length}
-
--- 00h and the checksum bring the sum to 0
-pub balanced : (front : List ℕ) → sum (sealed front) % 256 ≡ 0
-unfolding sum
-balanced front = omega (arith, sum-append front (0 ∷ checkOf front ∷ []))
-
--- the data stand at bytes 5 on
-pub part-stands : (mid id fifth : ℕ) (part : List ℕ) → take (length part) (drop 5 (packetOf mid id fifth part)) ≡ part
-unfolding packetOf
-part-stands mid id fifth part =
-    take-append-le (length part) part (0 ∷ checkOf (frontOf mid id fifth part) ∷ []) (omega arith) ∙ take-length part
+use Rattle.packet.proofs.Seals.{balanced}
 
 -- a packet's frame is always right
 pub packet-framed : (mid id fifth : ℕ) (part : List ℕ) → length part ≤ 14 → id ≤ 0x41
@@ -87,16 +70,3 @@ body-reads mid id body position normal some most below =
     packet-reads mid id (totalOf body) position (partOf body position) normal (omega arith) (omega arith) below (omega arith)
     (omega arith)
     (λ more. omega arith)
-
--- what a writer wrote stands at the front of the buffer, and what stood behind stands there still
-pub written-stands : (rows : List Row) (bytes out after : List ℕ) (n : ℕ) → Writes rows bytes out (Wrote n) after
-    → (take n after ≡ bytes) × (drop n after ≡ drop n out)
-written-stands rows bytes out after n w = go (firstOf rows) (w .answered) (w .left)
-  where
-    go : (k : ℕ) → Wrote n ≡ answerOf k bytes → after ≡ bufferOf k bytes out → (take n after ≡ bytes) × (drop n after ≡ drop n out)
-    go zero a l =
-        let e : n ≡ length bytes = cc in (
-          ap (λ (m : ℕ). take m after) e ∙ ap (take (length bytes)) l ∙ take-laid bytes out,
-          ap (λ (m : ℕ). drop m after) e ∙ ap (drop (length bytes)) l ∙ drop-laid bytes out ∙ ap (λ (m : ℕ). drop m out) (sym e),
-        )
-    go (suc k) a l = let z : _≡_ {A = ℕ} 0 1 = cc in (absurd (omega arith), absurd (omega arith))

@@ -1,18 +1,20 @@
--- The refusal is the lowest that applies: a number is given exactly if one applies, it applies itself, and none below it does.
+-- The refusal is the lowest that applies: a number is given exactly if one applies, it applies itself, and
+-- none below it does; so no reply is taken for a packet.
 use Prim.Native.Nat.{ℕ, zero, suc, _/_, _%_, _-_, _≤_, _<_}
-use mathlib.Core.Path.{_≡_, refl, sym, ap, _∙_}
+use mathlib.Core.Path.{_≡_, refl}
 use mathlib.Core.List.{List}
 use mathlib.Core.Bool.{Bool, true, false}
 use native.Mathlib.Omega.{arith}
 use lib.ListN.{length, getD}
 use lib.Dec.{eqb, leb}
 use Rattle.basis.specs.Choice.{when}
-use Rattle.basis.specs.Rows.{Row, firstOf, applies}
+use Rattle.basis.specs.Rows.{firstOf, applies}
 use Rattle.basis.proofs.Rows.{given-applies, lowest-given}
-use Rattle.packet.specs.Read.{readOf, rowsOf, refusedOr, named}
-use Rattle.packet.specs.declared.read.Reading.{Reading}
-use Rattle.packet.specs.declared.read.Reading.the-variants.{Query, Reset, Normal, Refused}
-use Rattle.packet.proofs.Unique.{table-rises}
+use Rattle.packet.specs.Wire.{replyOf}
+use Rattle.reader.specs.Read.{readOf, rowsOf, refusedOr, named}
+use Rattle.reader.specs.declared.read.Reading.{Reading}
+use Rattle.reader.specs.declared.read.Reading.the-variants.{Query, Reset, Normal, Refused}
+use Rattle.reader.proofs.Unique.{table-rises}
 
 -- what is named by its fields is no refusal
 named-not : (t u : Bool) (id total position len k : ℕ) → when t (Normal id total position len) (when u Query Reset) ≡ Refused k → ⊥
@@ -53,3 +55,14 @@ refused-where mid b j a =
     go : (n : ℕ) → 0 < n → (r : Reading) → refusedOr n r ≡ Refused n
     go zero h r = absurd (omega arith)
     go (suc n) h r = refl
+
+-- number 11 applies to every reply, whoever reads it: both letters say that more packets follow
+eleven : (m mid last : ℕ) (busy sink : Bool) → applies 11 (rowsOf m (replyOf mid last busy sink)) ≡ true
+unfolding replyOf
+eleven m mid last true sink = refl
+eleven m mid last false sink = refl
+
+-- so no reply is an accepted packet, for the turned MID or any other
+pub no-packet : (m mid last : ℕ) (busy sink : Bool)
+    → readOf m (replyOf mid last busy sink) ≡ Refused (firstOf (rowsOf m (replyOf mid last busy sink)))
+no-packet m mid last busy sink = refused-where m (replyOf mid last busy sink) 11 (eleven m mid last busy sink)

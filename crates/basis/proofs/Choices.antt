@@ -12,7 +12,7 @@ when-false t x y e = ap (λ (b : Bool). when b x y) e
 pub and-true : (a b : Bool) → a ≡ true → b ≡ true → a and b ≡ true
 and-true a b ea eb = ap (λ (t : Bool). t and b) ea ∙ eb
 
--- both parts of a test that holds hold
+-- both parts of a conjunction that holds hold
 pub and-parts : (a b : Bool) → a and b ≡ true → (a ≡ true) × (b ≡ true)
 and-parts true b e = (refl, e)
 and-parts false b e = (e, cc)

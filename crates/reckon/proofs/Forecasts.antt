@@ -1,14 +1,13 @@
 -- The forecast adds up: the sums over the steps of a started program until it is Ready are its price by two readings.
 use Prim.Native.Nat.{ℕ, zero, suc, _+_, _≤_, _<_}
 use mathlib.Core.List.{List, [], _∷_}
-use mathlib.Core.Bool.{true, false}
+use mathlib.Core.Bool.{true, false, not}
 use mathlib.Core.Path.{_≡_, refl, sym, ap, _∙_}
 use native.Mathlib.Omega.{arith}
 use lib.Dec.{eqb}
 use lib.ListN.{length}
 use borrow.Author.Tests.{eq-eqb, ne-eqb}
-use Rattle.basis.proofs.Choices.{when-true, when-false}
-use Rattle.basis.proofs.Tests.{tests}
+use Rattle.basis.proofs.Choices.{when-true, when-false, and-true, within-true}
 use Rattle.units.specs.Units.{capped}
 use Rattle.perform.specs.Settings.{soundOf as settingsSound}
 use Rattle.perform.specs.declared.settings.Settings.{Settings}
@@ -69,10 +68,7 @@ tallies-price b e σ set =
 
 module _ (b : List ℕ) (pace each : ℕ) (h1 : 1 ≤ pace) (h2 : pace ≤ 20) (h3 : 1 ≤ each) (h4 : each ≤ 6) where
   ranged : outOfRange pace each ≡ false
-  ranged =
-      let p : pace < 21 = omega arith in
-      let s : each < 7 = omega arith in
-      search tests
+  ranged = ap not (and-true _ _ (within-true 1 pace 20 h1 h2) (within-true 1 each 6 h3 h4))
 
   -- a pace and scans in range leave the answer to the body
   pub in-range : (v : Verdict) → judgeOf b ≡ v → forecastOf b pace each ≡ byVerdict v (talliesOf (startedOf b (settingsAt pace each)))
@@ -82,4 +78,4 @@ module _ (b : List ℕ) (pace each : ℕ) (h1 : 1 ≤ pace) (h2 : pace ≤ 20) (
       ∙ ap (λ (x : Verdict). byVerdict x (talliesOf (startedOf b (settingsAt pace each)))) e
 
   pub settings-sound : settingsSound (settingsAt pace each) ≡ true
-  settings-sound = sounds pace each false 16 0 h1 h2 h3 h4 (omega arith) (λ z. omega arith) (omega arith)
+  settings-sound = sounds pace each false 16 0 h1 h2 h3 h4 (omega arith, omega arith) refl

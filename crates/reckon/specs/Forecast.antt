@@ -3,9 +3,9 @@
 -- scan setting out of range, before 21 to 28".
 use Prim.Native.Nat.{ℕ, zero, suc, _+_}
 use mathlib.Core.List.{List}
-use mathlib.Core.Bool.{Bool, false}
-use lib.Dec.{eqb, ltb}
-use Rattle.basis.specs.Choice.{when, _or_}
+use mathlib.Core.Bool.{Bool, false, not}
+use lib.Dec.{eqb}
+use Rattle.basis.specs.Choice.{when, _and_, within}
 use Rattle.units.specs.Units.{capped}
 use Rattle.perform.specs.declared.settings.Settings.{Settings}
 use Rattle.perform.specs.declared.price.Performed.{Performed}
@@ -48,7 +48,7 @@ abbrev pub settingsAt : ℕ → ℕ → Settings
 settingsAt pace each = record { pace = pace; scans = each; sink = false; dim = 16; bright = 0 }
 
 abbrev pub outOfRange : ℕ → ℕ → Bool
-outOfRange pace each = ltb pace 1 or ltb 20 pace or ltb each 1 or ltb 6 each
+outOfRange pace each = not (within 1 pace 20 and within 1 each 6)
 
 abbrev pub byVerdict : Verdict → Totals → Foretold
 byVerdict Finite t = Ends t

@@ -35,7 +35,7 @@ same-body : (r : Run) (p : ℕ) (fs : List Frame) (σ : Settings) (s : State) �
 same-body r p fs σ (ready τ) = refl
 same-body r p fs σ (at q gs τ) = refl
 
-ready-none : (σ : Settings) → readyOf σ .len ≡ 0
+pub ready-none : (σ : Settings) → readyOf σ .len ≡ 0
 unfolding readyOf
 ready-none σ = refl
 

@@ -1,3 +1,4 @@
+pub mod Line
 pub mod Moves
 pub mod Sound
 pub mod Step

@@ -16,14 +16,15 @@ use Rattle.judge.specs.Verdict.{judgeOf}
 use Rattle.judge.specs.declared.Verdict.the-variants.{Finite, Endless}
 use Rattle.judge.specs.Token.{act, rep, close}
 use Rattle.course.specs.Steps.{saysOf, setsOf}
-use Rattle.course.specs.Tree.{Block, stop, one, loop, unrolled}
+use Rattle.course.specs.Tree.{Block, stop, one, loop}
 use Rattle.course.specs.Price.{sumBy, scans, millis, leavesOf}
 use Rattle.course.proofs.Programs.{treeIn}
 use Rattle.reckon.specs.Forecast.{forecastOf}
+use Rattle.machine.specs.Line.{lineOf, performed}
 use Rattle.machine.specs.Step.{stepOf, startedOf}
 use Rattle.reckon.specs.Totals.{totalsOf}
 use Rattle.machine.specs.declared.Answer.{Answer}
-use Rattle.machine.specs.declared.Answer.the-variants.{Did, Idle}
+use Rattle.machine.specs.declared.Answer.the-variants.{Idle}
 use Rattle.machine.specs.declared.Run.{Run}
 use Rattle.reckon.specs.declared.reckon.Foretold.{Foretold}
 use Rattle.reckon.specs.declared.reckon.Foretold.the-variants.{Ends, Endless as Never, Refused as RefusedForecast}
@@ -43,14 +44,6 @@ after m (suc k) r = after m k (m .step r)
 abbrev pub said : {R : Type 0} → Machine R → ℕ → R → List Answer
 said m zero r = []
 said m (suc k) r = m .says r ∷ said m k (m .step r)
-
--- what a body performs, one command after the other, from given settings: its unrolling
-abbrev pub lineOf : List ℕ → Settings → List Performed
-lineOf b σ = unrolled (treeIn b .block) σ
-
-abbrev pub performed : List Performed → List Answer
-performed [] = []
-performed (x ∷ xs) = Did x ∷ performed xs
 
 -- a program that ends
 pub record Runs {R : Type 0} (m : Machine R) (b : List ℕ) (σ : Settings) : Type 0 where

@@ -17,6 +17,7 @@ use Rattle.course.specs.Tree.{unrolled}
 use Rattle.course.specs.Price.{sumBy, ones, scans, millis, priceOf}
 use Rattle.course.proofs.Agrees.{Cares, price-agree, ones-care, scans-care, millis-care}
 use Rattle.course.proofs.Programs.{treeIn}
+use Rattle.machine.specs.Line.{lineOf}
 use Rattle.course.proofs.Theorem.{finite-ends}
 use Rattle.reckon.specs.Forecast.{settingsAt, forecastOf}
 use Rattle.reckon.specs.Totals.{totalsOf}
@@ -30,7 +31,7 @@ module _ (b : List ℕ) (σ : Settings) (set : settingsSound σ ≡ true) where
   -- the forecast at the pace and scans that the sign is set to, by what its line performs
   pub forecast-holds : judgeOf b ≡ Finite
       → forecastOf b (σ .pace) (σ .scans)
-      ≡ Ends (totalsOf (length (unrolled (treeIn b .block) σ)) (sumBy scans (unrolled (treeIn b .block) σ)) (sumBy millis (unrolled (treeIn b .block) σ)))
+      ≡ Ends (totalsOf (length (lineOf b σ)) (sumBy scans (lineOf b σ)) (sumBy millis (lineOf b σ)))
   forecast-holds e =
       let r = ranged σ set in
       let τ = settingsAt (σ .pace) (σ .scans) in

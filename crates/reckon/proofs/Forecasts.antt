@@ -15,23 +15,24 @@ use Rattle.perform.specs.declared.price.Performed.{Performed}
 use Rattle.judge.specs.Verdict.{judgeOf}
 use Rattle.judge.specs.declared.Verdict.{Verdict}
 use Rattle.judge.specs.declared.Verdict.the-variants.{Finite}
-use Rattle.course.specs.Tree.{unrolled}
 use Rattle.course.specs.Price.{sumBy, ones, scans, millis, priceOf}
 use Rattle.course.proofs.Programs.{treeIn}
 use Rattle.course.proofs.Theorem.{finite-ends}
-use Rattle.machine.specs.Step.{readyOf, stepOf, afterRun, saidRun, startedOf}
+use Rattle.machine.specs.Line.{lineOf, performed}
+use Rattle.machine.specs.Step.{stepOf, afterRun, saidRun, startedOf}
 use Rattle.reckon.specs.Forecast.{measured, tally, mostSteps, talliesOf, settingsAt, outOfRange, byVerdict, forecastOf}
 use Rattle.reckon.specs.Totals.{pricesOf}
 use Rattle.machine.specs.declared.Answer.{Answer}
 use Rattle.machine.specs.declared.Answer.the-variants.{Did}
 use Rattle.machine.specs.declared.Run.{Run}
 use Rattle.reckon.specs.declared.reckon.Foretold.the-variants.{Refused}
-use Rattle.machine.proofs.Lines.{BusyRun, dids, line-ends}
+use Rattle.machine.proofs.Follows.{ready-none}
+use Rattle.machine.proofs.Lines.{BusyRun, line-ends}
 use Rattle.machine.proofs.Ranges.{sounds}
 use Rattle.reckon.proofs.Sums.{totals-are}
 
 -- a run that performs these commands and is then Ready
-tally-is : (f : Performed → ℕ) (fuel : ℕ) (xs : List Performed) (r : Run) → length xs ≤ fuel → saidRun (length xs) r ≡ dids xs
+tally-is : (f : Performed → ℕ) (fuel : ℕ) (xs : List Performed) (r : Run) → length xs ≤ fuel → saidRun (length xs) r ≡ performed xs
     → ((k : ℕ) → k < length xs → BusyRun (afterRun k r))
     → afterRun (length xs) r .len ≡ 0
     → tally f fuel r ≡ sumBy f xs
@@ -41,21 +42,17 @@ tally-is f zero (x ∷ xs) r most said busy done = absurd (omega arith)
 tally-is f (suc fuel) [] r most said busy done = when-true (eqb (r .len) 0) _ _ (eq-eqb (r .len) 0 done)
 tally-is f (suc fuel) (x ∷ xs) r most said busy done =
     let now : stepOf r .answer ≡ Did x = cc in
-    let rest : saidRun (length xs) (stepOf r .run) ≡ dids xs = cc in
+    let rest : saidRun (length xs) (stepOf r .run) ≡ performed xs = cc in
     when-false (eqb (r .len) 0) _ _ (ne-eqb (r .len) 0 (busy 0 (omega arith)))
     ∙ ap (λ (a : Answer). measured f a + tally f fuel (stepOf r .run)) now
     ∙ ap (λ (n : ℕ). f x + n) (tally-is f fuel xs (stepOf r .run) (omega arith) rest (λ k h. busy (suc k) (omega arith)) done)
-
-ready-none : (σ : Settings) → readyOf σ .len ≡ 0
-unfolding readyOf
-ready-none σ = refl
 
 -- each sum until Ready is the price
 pub tally-price : (b : List ℕ) → judgeOf b ≡ Finite → (σ : Settings) → settingsSound σ ≡ true → (f : Performed → ℕ)
     → tally f mostSteps (startedOf b σ) ≡ priceOf f (treeIn b .block) σ
 tally-price b e σ set f =
     let l = line-ends b e σ set in
-    let xs = unrolled (treeIn b .block) σ in
+    let xs = lineOf b σ in
     tally-is f mostSteps xs (startedOf b σ) (l .most) (l .performed) (l .busy-before) (ap (λ (r : Run). r .len) (l .ready-then) ∙ ready-none _)
     ∙ finite-ends b e σ .adds-up f
 

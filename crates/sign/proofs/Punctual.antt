@@ -14,7 +14,7 @@ use Rattle.machine.specs.declared.Run.{Run}
 use Rattle.reckon.proofs.Demand.{forecast-holds}
 use Rattle.machine.proofs.Lines.{BusyRun, line-ends}
 use Rattle.sign.specs.Driver.{Event, afterEvents, saidEvents, afterSteps, saidSteps, stepsIn, Undisturbed}
-use Rattle.sign.specs.Punctual.{lineOf, OnTime}
+use Rattle.sign.specs.Punctual.{OnTime}
 use Rattle.sign.specs.Step.{stepOf}
 use Rattle.sign.specs.declared.Sign.{Sign}
 use Rattle.sign.specs.declared.Stepped.{Stepped}

@@ -36,6 +36,15 @@ use Rattle.packet.proofs.sum_of.Reads as packet-sum-of-reads
 use Rattle.packet.proofs.checksum as packet-checksum
 use Rattle.packet.proofs.checksum.Kinds as packet-checksum-kinds
 use Rattle.packet.proofs.checksum.Reads as packet-checksum-reads
+use Rattle.input.proofs.digit as input-digit
+use Rattle.input.proofs.digit.Kinds as input-digit-kinds
+use Rattle.input.proofs.digit.Reads as input-digit-reads
+use Rattle.input.proofs.pair as input-pair
+use Rattle.input.proofs.pair.Kinds as input-pair-kinds
+use Rattle.input.proofs.pair.Reads as input-pair-reads
+use Rattle.input.proofs.line_end as input-line-end
+use Rattle.input.proofs.line_end.Kinds as input-line-end-kinds
+use Rattle.input.proofs.line_end.Reads as input-line-end-reads
 use Rattle.program.proofs.read_command as program-read-command
 use Rattle.program.proofs.read_command.Kinds as program-read-command-kinds
 use Rattle.program.proofs.read_command.Reads as program-read-command-reads
@@ -211,6 +220,18 @@ one-packet-sum-of κs a r r′ s s′ h h′ = one h h′
 pub one-packet-checksum : (κs : Lifetimes.Lfts 1) (a : World.ArgsD packet-checksum.signature κs) (r r′ : World.ResD packet-checksum.signature κs)
     (s s′ : Clauses.AtExit (K.endedOf 1 packet-checksum-kinds.ps packet-checksum-kinds.r) κs) → packet-checksum-reads.Post κs a r s → packet-checksum-reads.Post κs a r′ s′ → r ≡ r′
 one-packet-checksum κs a r r′ s s′ h h′ = one h h′
+
+pub one-input-digit : (κs : Lifetimes.Lfts 0) (a : World.ArgsD input-digit.signature κs) (r r′ : World.ResD input-digit.signature κs)
+    (s s′ : Clauses.AtExit (K.endedOf 0 input-digit-kinds.ps input-digit-kinds.r) κs) → input-digit-reads.Post κs a r s → input-digit-reads.Post κs a r′ s′ → r ≡ r′
+one-input-digit κs a r r′ s s′ h h′ = one h h′
+
+pub one-input-pair : (κs : Lifetimes.Lfts 0) (a : World.ArgsD input-pair.signature κs) (r r′ : World.ResD input-pair.signature κs)
+    (s s′ : Clauses.AtExit (K.endedOf 0 input-pair-kinds.ps input-pair-kinds.r) κs) → input-pair-reads.Post κs a r s → input-pair-reads.Post κs a r′ s′ → r ≡ r′
+one-input-pair κs a r r′ s s′ h h′ = one h h′
+
+pub one-input-line-end : (κs : Lifetimes.Lfts 1) (a : World.ArgsD input-line-end.signature κs) (r r′ : World.ResD input-line-end.signature κs)
+    (s s′ : Clauses.AtExit (K.endedOf 1 input-line-end-kinds.ps input-line-end-kinds.r) κs) → input-line-end-reads.Post κs a r s → input-line-end-reads.Post κs a r′ s′ → r ≡ r′
+one-input-line-end κs a r r′ s s′ h h′ = one h h′
 
 pub one-program-read-command : (κs : Lifetimes.Lfts 1) (a : World.ArgsD program-read-command.signature κs) (r r′ : World.ResD program-read-command.signature κs)
     (s s′ : Clauses.AtExit (K.endedOf 1 program-read-command-kinds.ps program-read-command-kinds.r) κs) → program-read-command-reads.Post κs a r s → program-read-command-reads.Post κs a r′ s′ → r ≡ r′

@@ -1,12 +1,12 @@
--- Laws of a line's end: one byte more, and between which places it lies; and how great a digit is.
-use Prim.Native.Nat.{ℕ, suc, _+_, _-_, _≤_, _<_}
+-- Laws of a line's end, byte by byte, and how great a digit is.
+use Prim.Native.Nat.{ℕ, _+_, _-_, _≤_, _<_}
 use mathlib.Core.Path.{_≡_, refl, ap, _∙_}
 use mathlib.Core.Bool.{Bool, true, false}
-use mathlib.Core.List.{List, [], _∷_}
+use mathlib.Core.List.{List}
 use native.Mathlib.Omega.{arith}
 use lib.Dec.{eqb, ltb, leb}
-use lib.ListN.{length, getD, drop, drop-of-length-le, length-drop}
-use borrow.Author.Tests.{eq-eqb, ne-eqb, ltb-false, leb-true}
+use lib.ListN.{length, getD, drop, drop-of-length-le}
+use borrow.Author.Tests.{eq-eqb, ne-eqb, leb-true}
 use Rattle.basis.specs.Choice.{when}
 use Rattle.basis.proofs.Choices.{when-true, when-false}
 use Rattle.basis.proofs.Lists.{drop-next}
@@ -25,21 +25,6 @@ module _ (s : List ℕ) (at : ℕ) (within : at < length s) where
 
 pub ends-there : (s : List ℕ) (at : ℕ) → length s ≤ at → lineEnd at (drop at s) ≡ at
 ends-there s at past = ap (lineEnd at) (drop-of-length-le s past)
-
--- a line ends at its start or behind it, and not behind its bytes
-bounds : (at : ℕ) (xs : List ℕ) → (at ≤ lineEnd at xs) × (lineEnd at xs ≤ at + length xs)
-bounds at [] = (omega arith, omega arith)
-bounds at (x ∷ xs) = go (eqb x 0x0A) (bounds (at + 1) xs)
-  where
-    go : (t : Bool) → (at + 1 ≤ lineEnd (at + 1) xs) × (lineEnd (at + 1) xs ≤ at + 1 + length xs)
-        → (at ≤ when t at (lineEnd (at + 1) xs)) × (when t at (lineEnd (at + 1) xs) ≤ at + suc (length xs))
-    go true h = (omega arith, omega arith)
-    go false h = (omega (arith, h .0), omega (arith, h .1))
-
-pub end-within : (s : List ℕ) (from r : ℕ) → from < length s → r ≡ lineEnd from (drop from s) → (from ≤ r) × (r ≤ length s)
-end-within s from r within e =
-    let b = bounds from (drop from s) in
-    (omega (arith, e, b .0), omega (arith, e, b .1, length-drop from s))
 
 -- no digit is over 15
 pub digit-most : (x : ℕ) → digitOf x ≤ 15

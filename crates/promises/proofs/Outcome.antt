@@ -231,7 +231,7 @@ one-input-pair κs a r r′ s s′ h h′ = one h h′
 
 pub one-input-line-end : (κs : Lifetimes.Lfts 1) (a : World.ArgsD input-line-end.signature κs) (r r′ : World.ResD input-line-end.signature κs)
     (s s′ : Clauses.AtExit (K.endedOf 1 input-line-end-kinds.ps input-line-end-kinds.r) κs) → input-line-end-reads.Post κs a r s → input-line-end-reads.Post κs a r′ s′ → r ≡ r′
-one-input-line-end κs a r r′ s s′ h h′ = one h h′
+one-input-line-end κs a r r′ s s′ h h′ = one (h .0) (h′ .0)
 
 pub one-program-read-command : (κs : Lifetimes.Lfts 1) (a : World.ArgsD program-read-command.signature κs) (r r′ : World.ResD program-read-command.signature κs)
     (s s′ : Clauses.AtExit (K.endedOf 1 program-read-command-kinds.ps program-read-command-kinds.r) κs) → program-read-command-reads.Post κs a r s → program-read-command-reads.Post κs a r′ s′ → r ≡ r′

@@ -63,16 +63,20 @@ pub record LineRuns {R : Type 0} (m : Machine R) : Type 0 where
   pub finite : (b : List ℕ) (σ : Settings) → soundOf σ ≡ true → judgeOf b ≡ Finite → Runs m b σ
   pub endless : (b : List ℕ) (σ : Settings) → soundOf σ ≡ true → judgeOf b ≡ Endless → Goes m b σ
 
--- ours
-abbrev pub ours : Machine Run
-ours =
+-- our steps beside any forecast
+abbrev pub foretelling : (List ℕ → ℕ → ℕ → Foretold) → Machine Run
+foretelling f =
     record {
       start = startedOf;
       step = λ r. stepOf r .run;
       says = λ r. stepOf r .answer;
       ready = λ r. eqb (r .len) 0;
-      forecast = forecastOf;
+      forecast = f;
     }
+
+-- ours
+abbrev pub ours : Machine Run
+ours = foretelling forecastOf
 
 -- one that is Ready at once, beside a forecast of nothing
 abbrev pub atOnce : Machine ℕ
@@ -86,14 +90,7 @@ madeUp Never = Never
 madeUp (RefusedForecast n p) = RefusedForecast n p
 
 abbrev pub inventing : Machine Run
-inventing =
-    record {
-      start = startedOf;
-      step = λ r. stepOf r .run;
-      says = λ r. stepOf r .answer;
-      ready = λ r. eqb (r .len) 0;
-      forecast = λ b pace each. madeUp (forecastOf b pace each);
-    }
+inventing = foretelling (λ b pace each. madeUp (forecastOf b pace each))
 
 -- one that performs its first pass and then only counts: it holds what is left to say and how many steps are left
 pub record Counting : Type 0 where

@@ -1,7 +1,5 @@
 -- `bodies::lines::all` ends: each line end lies behind the place before it.
-use native.Mathlib.Omega.{arith}
 use borrow.Author.Needs.{needs}
-use Rattle.input.proofs.Ends.{end-within}
 use Prim.Native.Nat.{_+_, _-_, _≤_}
 use lib.ListN.{length}
 use Rattle.bodies.proofs.lines.all.Statement.{statement}
@@ -20,43 +18,25 @@ line-end-requires : tie.Need-line-end-requires Inv-loop μ-loop
 line-end-requires c κs = search needs
 
 sub-line : tie.Need-sub-line Inv-loop μ-loop
-sub-line c =
-    let l = c .before .before in
-    let b = end-within (l .before .before .args .text .now) (l .loop .at) (c .line-end .result) (search needs) (c .line-end .ensures) in
-    omega (arith, b .0, b .1)
+sub-line c = search needs
 
 part-line-start : tie.Need-part-line-start Inv-loop μ-loop
-part-line-start c =
-    let l = c .before .before in
-    let b = end-within (l .before .before .args .text .now) (l .loop .at) (c .line-end .result) (search needs) (c .line-end .ensures) in
-    omega (arith, b .0, b .1)
+part-line-start c = search needs
 
 part-line-end : tie.Need-part-line-end Inv-loop μ-loop
-part-line-end c =
-    let l = c .before .before in
-    let b = end-within (l .before .before .args .text .now) (l .loop .at) (c .line-end .result) (search needs) (c .line-end .ensures) in
-    omega (arith, b .0, b .1)
+part-line-end c = search needs
 
 line-requires : tie.Need-line-requires Inv-loop μ-loop
 line-requires c κs = search needs
 
 add-at : tie.Need-add-at Inv-loop μ-loop
-add-at c =
-    let l = c .before .before .before .before in
-    let b = end-within (l .before .before .args .text .now) (l .loop .at) (c .before .before .line-end .result) (search needs) (c .before .before .line-end .ensures) in
-    omega (arith, b .0, b .1)
+add-at c = search needs
 
 loop-less : tie.Need-loop-less Inv-loop μ-loop
-loop-less c =
-    let l = c .before .before .before .before in
-    let b = end-within (l .before .before .args .text .now) (l .loop .at) (c .before .before .line-end .result) (search needs) (c .before .before .line-end .ensures) in
-    omega (arith, b .0, b .1)
+loop-less c = search needs
 
 loop-again : tie.Need-loop-again Inv-loop μ-loop
-loop-again c =
-    let l = c .before .before .before .before in
-    let b = end-within (l .before .before .args .text .now) (l .loop .at) (c .before .before .line-end .result) (search needs) (c .before .before .line-end .ensures) in
-    omega (arith, b .0, b .1)
+loop-again c = search needs
 
 returns : tie.Need-returns Inv-loop μ-loop
 returns c = search needs

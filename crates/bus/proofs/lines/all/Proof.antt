@@ -1,7 +1,5 @@
 -- `all` ends: each line end lies behind the place before it.
-use native.Mathlib.Omega.{arith}
 use borrow.Author.Needs.{needs}
-use Rattle.input.proofs.Ends.{end-within}
 use lib.ListN.{length}
 use Prim.Native.Nat.{_+_, _-_, _≤_}
 use Rattle.bus.proofs.lines.all.Statement.{statement}
@@ -23,43 +21,25 @@ line-end-requires : tie.Need-line-end-requires Inv-loop μ-loop
 line-end-requires c κs = search needs
 
 sub-done : tie.Need-sub-done Inv-loop μ-loop
-sub-done c =
-    let l = c .before .before in
-    let b = end-within (l .before .before .args .text .now) (l .loop .at) (c .line-end .result) (search needs) (c .line-end .ensures) in
-    omega (arith, b .0, b .1)
+sub-done c = search needs
 
 part-done-start : tie.Need-part-done-start Inv-loop μ-loop
-part-done-start c =
-    let l = c .before .before in
-    let b = end-within (l .before .before .args .text .now) (l .loop .at) (c .line-end .result) (search needs) (c .line-end .ensures) in
-    omega (arith, b .0, b .1)
+part-done-start c = search needs
 
 part-done-end : tie.Need-part-done-end Inv-loop μ-loop
-part-done-end c =
-    let l = c .before .before in
-    let b = end-within (l .before .before .args .text .now) (l .loop .at) (c .line-end .result) (search needs) (c .line-end .ensures) in
-    omega (arith, b .0, b .1)
+part-done-end c = search needs
 
 done-requires : tie.Need-done-requires Inv-loop μ-loop
 done-requires c κs = search needs
 
 add-at : tie.Need-add-at Inv-loop μ-loop
-add-at c =
-    let l = c .before .before .before .before in
-    let b = end-within (l .before .before .args .text .now) (l .loop .at) (c .before .before .line-end .result) (search needs) (c .before .before .line-end .ensures) in
-    omega (arith, b .0, b .1)
+add-at c = search needs
 
 loop-less : tie.Need-loop-less Inv-loop μ-loop
-loop-less c =
-    let l = c .before .before .before .before in
-    let b = end-within (l .before .before .args .text .now) (l .loop .at) (c .before .before .line-end .result) (search needs) (c .before .before .line-end .ensures) in
-    omega (arith, b .0, b .1)
+loop-less c = search needs
 
 loop-again : tie.Need-loop-again Inv-loop μ-loop
-loop-again c =
-    let l = c .before .before .before .before in
-    let b = end-within (l .before .before .args .text .now) (l .loop .at) (c .before .before .line-end .result) (search needs) (c .before .before .line-end .ensures) in
-    omega (arith, b .0, b .1)
+loop-again c = search needs
 
 returns : tie.Need-returns Inv-loop μ-loop
 returns c = search needs

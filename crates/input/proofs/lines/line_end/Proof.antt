@@ -9,7 +9,7 @@ use Rattle.input.proofs.lines.line_end.Statement.{statement}
 use Rattle.input.proofs.lines.line_end.Tie as tie
 
 abbrev Inv-loop : tie.InvT-loop
-Inv-loop text from at₀ at = lineEnd at (drop at text) ≡ lineEnd from (drop from text)
+Inv-loop text from at₀ at = (lineEnd at (drop at text) ≡ lineEnd from (drop from text)) × ((from ≤ at) × (at - from ≤ length text - from))
 
 abbrev μ-loop : tie.MeasureT-loop
 μ-loop text from at₀ at = length text - at
@@ -21,7 +21,10 @@ shared-slice-read-if1 : tie.Need-shared-slice-read-if1 Inv-loop μ-loop
 shared-slice-read-if1 c = search needs
 
 returns : tie.Need-returns Inv-loop μ-loop
-returns c = sym (ends-here (c .before .before .before .before .args .text .now) (c .before .before .before .loop .at) (search needs) (c .if1 .taken)) ∙ c .before .before .before .loop .inv
+returns c = (
+  sym (ends-here (c .before .before .before .before .args .text .now) (c .before .before .before .loop .at) (search needs) (c .if1 .taken)) ∙ c .before .before .before .loop .inv .0,
+  c .before .before .before .loop .inv .1,
+)
 
 add-at : tie.Need-add-at Inv-loop μ-loop
 add-at c = search needs
@@ -30,10 +33,16 @@ loop-less : tie.Need-loop-less Inv-loop μ-loop
 loop-less c = search needs
 
 loop-again : tie.Need-loop-again Inv-loop μ-loop
-loop-again c = sym (goes-on (c .before .before .before .before .args .text .now) (c .before .before .before .loop .at) (search needs) (c .if1 .left)) ∙ c .before .before .before .loop .inv
+loop-again c = (
+  sym (goes-on (c .before .before .before .before .args .text .now) (c .before .before .before .loop .at) (search needs) (c .if1 .left)) ∙ c .before .before .before .loop .inv .0,
+  search needs,
+)
 
 returns-2 : tie.Need-returns-2 Inv-loop μ-loop
-returns-2 c = sym (ends-there (c .before .before .args .text .now) (c .before .loop .at) (search needs)) ∙ c .before .loop .inv
+returns-2 c = (
+  sym (ends-there (c .before .before .args .text .now) (c .before .loop .at) (search needs)) ∙ c .before .loop .inv .0,
+  c .before .loop .inv .1,
+)
 
 pub line-end-spec : {M : Type 1} → statement M
 line-end-spec =

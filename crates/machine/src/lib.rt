@@ -2,6 +2,7 @@
 //   sound    which runs are sound                                  "Ready has no body .. Busy .. has an accepted body and a place
 //            at a command, .."
 //   steps    one step: a command performed and the next run        "A step performs one command and answers .."
+// specs/Line has the commands that a body performs, which the forecast and the promises speak of.
 mod sound;
 mod steps;
 

@@ -1,4 +1,4 @@
--- A choice whose test is known, and the connectives' values from their parts'.
+-- A choice whose test is known, the connectives' values from their parts', and a range from its ends.
 use Prim.Native.Nat.{ℕ, _≤_}
 use mathlib.Core.Bool.{Bool, true, false}
 use mathlib.Core.Path.{_≡_, refl, sym, ap, _∙_}

@@ -3,11 +3,11 @@ use crate::make::Made;
 use crate::make::next;
 use crate::make::piece;
 use machine::Answer;
-use machine::Foretold;
 use machine::Loop;
 use machine::Run;
-use machine::Totals;
 use perform::Settings;
+use reckon::Foretold;
+use reckon::Totals;
 
 // The settings of a sign at this pace and scans.
 fn set(pace: u8, scans: u8) -> Settings {
@@ -84,7 +84,7 @@ fn agrees(made: Made, pace: u8, scans: u8) -> bool {
     if 84 < len {
         return false;
     }
-    let told = machine::forecast(&body[..len], pace, scans);
+    let told = reckon::forecast(&body[..len], pace, scans);
     let run = Run {
         body,
         len,

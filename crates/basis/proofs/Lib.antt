@@ -5,4 +5,3 @@ pub mod Rows
 pub mod Sums
 pub mod Tests
 pub mod Lists
-pub mod Bools

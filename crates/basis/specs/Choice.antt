@@ -1,6 +1,8 @@
--- A choice by a Bool at any type, and the two connectives, from which the decision lists of 01 are made.
+-- A choice by a Bool at any type, the two connectives and the test of a range, from which the decision lists of 01 are made.
 -- Each matches on its first argument, so that a test whose value is known computes away.
+use Prim.Native.Nat.{ℕ}
 use mathlib.Core.Bool.{Bool, true, false}
+use lib.Dec.{leb}
 
 infixr 6 _and_
 infixr 5 _or_
@@ -16,3 +18,7 @@ _and_ false b = false
 abbrev pub _or_ : Bool → Bool → Bool
 _or_ true b = true
 _or_ false b = b
+
+-- from least to greatest, both included
+abbrev pub within : (least n greatest : ℕ) → Bool
+within least n greatest = leb least n and leb n greatest

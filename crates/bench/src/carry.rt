@@ -1,14 +1,14 @@
 // How many packets a body takes. Answers to 01: "14-byte body: one packet. 15: two. 84: six. 85: 31."
 use crate::field;
-use packet::Reading;
 use packet::Written;
+use reader::Reading;
 
 // How many packets a transmission's first packet says there are; it is full where there are more.
 fn said(bytes: &[u8]) -> u64 {
     if bytes.len() < 21 {
         return 0;
     }
-    let read = packet::read_packet(0x80, &bytes[..21]);
+    let read = reader::read_packet(0x80, &bytes[..21]);
     match read {
         Reading::Query => 0,
         Reading::Reset => 0,

@@ -1,11 +1,11 @@
 // A body's forecast at pace 4 and one scan. Answers to 01's examples of forecasts.
 use crate::field;
-use machine::Foretold;
+use reckon::Foretold;
 
 // A body at pace 4 and one scan: what is foretold of it.
 pub(crate) fn forecast(body: &[u8]) {
     io::write_all(1, body);
-    let told = machine::forecast(body, 4, 1);
+    let told = reckon::forecast(body, 4, 1);
     match told {
         Foretold::Ends(totals) => {
             let steps = totals.steps;

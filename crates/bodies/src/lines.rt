@@ -3,27 +3,11 @@ use crate::show::judged;
 use crate::show::measured;
 use crate::show::read;
 use crate::show::stood;
+use input::digit;
+use input::line_end;
+use input::pair;
 ghost use Prim.Native.Nat.{_≤_, _<_};
 ghost use lib.ListN.{length};
-
-// The value of a hexadecimal digit in lower case; 0 of any other byte.
-fn digit(x: u8) -> u8
-    ensures { λ r. ⌜ r ≤ 15 ⌝ }
-{
-    if x < b'0' {
-        return 0;
-    }
-    if x <= b'9' {
-        return x - b'0';
-    }
-    if x < b'a' {
-        return 0;
-    }
-    if b'f' < x {
-        return 0;
-    }
-    x - b'a' + 10
-}
 
 // Whether a byte is written as two digits at this place.
 fn coded(text: &[u8], at: usize) -> bool {
@@ -46,7 +30,7 @@ fn decoded(text: &[u8], at: usize) -> u8
     requires { ⌜ at < 16384 ⌝ }
 {
     if coded(text, at) {
-        return digit(byte(text, at + 1)) * 16 + digit(byte(text, at + 2));
+        return pair(byte(text, at + 1), byte(text, at + 2));
     }
     byte(text, at)
 }
@@ -108,21 +92,6 @@ fn line(text: &[u8]) {
     let mut body = [0u8; 128];
     let n = decode(&text[5..], &mut body);
     tried(text[0], place, &body[..n]);
-}
-
-// The next line end from a place on, or the end.
-fn line_end(text: &[u8], from: usize) -> usize
-    requires { ⌜ from < length (now text) ⌝ }
-    ensures { λ r. ⌜ (from ≤ r) × (r ≤ length (now (text .entry))) ⌝ }
-{
-    let mut at = from;
-    while at < text.len() {
-        if text[at] == b'\n' {
-            return at;
-        }
-        at += 1;
-    }
-    at
 }
 
 // All lines.

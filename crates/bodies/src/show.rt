@@ -70,10 +70,10 @@ pub(crate) fn judged(body: &[u8]) {
 // The width of a text, and where it starts.
 pub(crate) fn measured(text: &[u8]) {
     bytes(text);
-    let width = program::width(text);
+    let width = measure::width(text);
     field(b": width ", width);
-    if program::fits(width) {
-        field(b" column ", program::start_column(width));
+    if measure::fits(width) {
+        field(b" column ", measure::start_column(width));
     } else {
         io::write_all(1, b" scrolls");
     }

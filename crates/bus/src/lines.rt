@@ -5,33 +5,11 @@ use crate::show::received;
 use crate::show::repeated;
 use crate::show::replied;
 use crate::show::stepped;
+use input::line_end;
+use input::pair;
 use sign::Sign;
 ghost use Prim.Native.Nat.{_≤_, _<_};
 ghost use lib.ListN.{length};
-
-// The value of a hexadecimal digit in upper case; 0 of any other byte.
-fn digit(x: u8) -> u8
-    ensures { λ r. ⌜ r ≤ 15 ⌝ }
-{
-    if x < b'0' {
-        return 0;
-    }
-    if x <= b'9' {
-        return x - b'0';
-    }
-    if x < b'A' {
-        return 0;
-    }
-    if b'F' < x {
-        return 0;
-    }
-    x - b'A' + 10
-}
-
-// The byte that two digits write.
-fn pair(high: u8, low: u8) -> u8 {
-    digit(high) * 16 + digit(low)
-}
 
 // The bytes that a line writes behind its first two, laid into a buffer, and how many they are.
 fn decode(text: &[u8], out: &mut [u8]) -> usize
@@ -101,21 +79,6 @@ fn done(sign: Sign, text: &[u8]) -> Sign {
         return ill;
     }
     Sign::power_on()
-}
-
-// The next line end from a place on, or the end.
-fn line_end(text: &[u8], from: usize) -> usize
-    requires { ⌜ from < length (now text) ⌝ }
-    ensures { λ r. ⌜ (from ≤ r) × (r ≤ length (now (text .entry))) ⌝ }
-{
-    let mut at = from;
-    while at < text.len() {
-        if text[at] == b'\n' {
-            return at;
-        }
-        at += 1;
-    }
-    at
 }
 
 // All lines, from power-on.

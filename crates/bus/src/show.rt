@@ -1,4 +1,5 @@
 // One line for each thing done: the answer in words.
+use input::digit;
 use judge::Verdict;
 use machine::Answer;
 use packet::Written;
@@ -159,24 +160,13 @@ pub(crate) fn copied(sign: Sign) -> Sign {
     sign
 }
 
-// The value of a digit; 0 of any other byte.
-fn digit(x: u8) -> usize {
-    if x < b'0' {
-        return 0;
-    }
-    if b'9' < x {
-        return 0;
-    }
-    (x - b'0') as usize
-}
-
 // What the repeater hands back of the body that a line gives, behind a place and a length of one digit each.
 pub(crate) fn repeated(sign: Sign, text: &[u8]) -> Sign {
     if text.len() < 5 {
         return sign;
     }
-    let place = digit(text[2]);
-    let len = digit(text[3]);
+    let place = digit(text[2]) as usize;
+    let len = digit(text[3]) as usize;
     let stretch = repeat(&text[5..], place, len, b"standing line");
     io::write_all(1, stretch);
     io::write_all(1, b"\n");

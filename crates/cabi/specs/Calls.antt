@@ -7,10 +7,10 @@ use lib.ListN.{length}
 use Rattle.basis.specs.Bytes.{laid}
 use Rattle.basis.specs.Choice.{when}
 use Rattle.basis.specs.Rows.{Row, _if_}
-use Rattle.packet.specs.Read.{readOf, toldOf}
+use Rattle.reader.specs.Read.{readOf, toldOf}
 use Rattle.packet.specs.Reply.{heardOf, numberOf as heardNo}
-use Rattle.packet.specs.declared.read.Reading.{Reading}
-use Rattle.packet.specs.declared.read.Reading.the-variants.{Query as QueryRead, Reset as ResetRead, Normal, Refused as Unread}
+use Rattle.reader.specs.declared.read.Reading.{Reading}
+use Rattle.reader.specs.declared.read.Reading.the-variants.{Query as QueryRead, Reset as ResetRead, Normal, Refused as Unread}
 use Rattle.packet.specs.declared.reply.Status.{Status}
 use Rattle.packet.specs.declared.reply.Status.the-variants.{Heard, Refused as Unheard}
 use Rattle.program.specs.declared.Kind.{Kind}
@@ -18,11 +18,11 @@ use Rattle.program.specs.declared.Kind.the-variants.{II, IA, IB, S, L, E, F, R,
 use Rattle.perform.specs.declared.price.Performed.{Performed}
 use Rattle.judge.specs.declared.Verdict.{Verdict}
 use Rattle.judge.specs.declared.Verdict.the-variants.{Finite, Endless, Refused as NoProgram}
-use Rattle.machine.specs.Forecast.{forecastOf}
+use Rattle.reckon.specs.Forecast.{forecastOf}
 use Rattle.machine.specs.declared.Answer.{Answer}
 use Rattle.machine.specs.declared.Answer.the-variants.{Did, Idle, Refused as NoStep}
-use Rattle.machine.specs.declared.reckon.Foretold.{Foretold}
-use Rattle.machine.specs.declared.reckon.Foretold.the-variants.{Ends, Endless as Never, Refused as NoForecast}
+use Rattle.reckon.specs.declared.reckon.Foretold.{Foretold}
+use Rattle.reckon.specs.declared.reckon.Foretold.the-variants.{Ends, Endless as Never, Refused as NoForecast}
 use Rattle.sign.specs.Reset.{powerOn, clearedOf}
 use Rattle.sign.specs.Receive.{receiveOf, numberOf, programOf, placeOf}
 use Rattle.sign.specs.Step.{stepOf, numberOf as stepNumber}

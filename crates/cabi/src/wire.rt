@@ -1,15 +1,15 @@
 // Packets and replies for C, read and written. Answers to 01, "The packet".
 use crate::words::lay;
 use crate::words::wrote;
-use packet::Reading;
 use packet::Status;
-use packet::read_packet;
 use packet::read_reply;
 use packet::write_packet;
 use packet::write_query;
 use packet::write_reply;
 use packet::write_reset;
 use packet::write_transmission;
+use reader::Reading;
+use reader::read_packet;
 ghost use mathlib.Core.Path.{_≡_};
 ghost use mathlib.Core.Bool.{not};
 ghost use mathlib.Core.List.{[], _∷_};

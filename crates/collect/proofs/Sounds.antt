@@ -6,7 +6,7 @@ use mathlib.Core.Path.{_≡_, refl, sym, ap, _∙_}
 use native.Mathlib.Omega.{arith}
 use lib.Dec.{eqb, ltb, leb}
 use lib.ListN.{length, getD, drop, replicate}
-use borrow.Author.Tests.{ltb-false, leb-false, eqb-false, eq-eqb, ne-eqb, le-ltb, lt-leb, not-true}
+use borrow.Author.Tests.{ltb-true, leb-true, eqb-false, ne-eqb, lt-ltb, le-leb, not-true}
 use Rattle.basis.specs.Choice.{when, _and_, _or_}
 use Rattle.basis.proofs.Choices.{and-parts, and-true, when-false}
 use Rattle.collect.specs.Slots.{ruleOf, heldOf, slotsOf, begunOf, noneOf}
@@ -29,24 +29,24 @@ unequal a b e = eqb-false a b (not-true (eqb a b) e)
 pub sound-slots : (last : ℕ) (c : Collection) → soundOf last c ≡ true → slotsOf (c .total) 0 (c .lens) (c .room) ≡ true
 unfolding soundOf
 sound-slots last c e =
-    and-parts (when (eqb (c .total) 0) (eqb (c .id) 0) (idOf last c and not (ltb 6 (c .total)) and someOf c)) (slotsOf (c .total) 0 (c .lens) (c .room)) e .1
+    and-parts (when (eqb (c .total) 0) (eqb (c .id) 0) (idOf last c and leb (c .total) 6 and someOf c)) (slotsOf (c .total) 0 (c .lens) (c .room)) e .1
 
 pub sound-collecting : (last : ℕ) (c : Collection) → (c .total ≡ 0 → ⊥) → soundOf last c ≡ true → Collecting last c
 unfolding soundOf
 sound-collecting last c busy e =
     let h = heldOf (c .lens) in
-    let p = and-parts (when (eqb (c .total) 0) (eqb (c .id) 0) (idOf last c and not (ltb 6 (c .total)) and someOf c)) (slotsOf (c .total) 0 (c .lens) (c .room)) e .0 in
-    let q = sym (when-false (eqb (c .total) 0) (eqb (c .id) 0) (idOf last c and not (ltb 6 (c .total)) and someOf c) (ne-eqb (c .total) 0 busy)) ∙ p in
-    let a = and-parts (idOf last c) (not (ltb 6 (c .total)) and someOf c) q in
-    let i = and-parts (not (ltb 0x3F (c .id))) (not (eqb (c .id) last)) (a .0) in
-    let t = and-parts (not (ltb 6 (c .total))) (someOf c) (a .1) in
-    let s = and-parts (not (eqb h 0)) (not (leb (c .total) h)) (t .1) in
+    let p = and-parts (when (eqb (c .total) 0) (eqb (c .id) 0) (idOf last c and leb (c .total) 6 and someOf c)) (slotsOf (c .total) 0 (c .lens) (c .room)) e .0 in
+    let q = sym (when-false (eqb (c .total) 0) (eqb (c .id) 0) (idOf last c and leb (c .total) 6 and someOf c) (ne-eqb (c .total) 0 busy)) ∙ p in
+    let a = and-parts (idOf last c) (leb (c .total) 6 and someOf c) q in
+    let i = and-parts (leb (c .id) 0x3F) (not (eqb (c .id) last)) (a .0) in
+    let t = and-parts (leb (c .total) 6) (someOf c) (a .1) in
+    let s = and-parts (not (eqb h 0)) (ltb h (c .total)) (t .1) in
     record {
-      known = ltb-false 0x3F (c .id) (not-true (ltb 0x3F (c .id)) (i .0));
+      known = leb-true (c .id) 0x3F (i .0);
       other = unequal (c .id) last (i .1);
-      most = ltb-false 6 (c .total) (not-true (ltb 6 (c .total)) (t .0));
+      most = leb-true (c .total) 6 (t .0);
       some = unequal h 0 (s .0);
-      missing = leb-false (c .total) h (not-true (leb (c .total) h) (s .1));
+      missing = ltb-true h (c .total) (s .1);
     }
 
 pub collecting-sound : (last : ℕ) (c : Collection) → (c .total ≡ 0 → ⊥) → Collecting last c
@@ -54,11 +54,11 @@ pub collecting-sound : (last : ℕ) (c : Collection) → (c .total ≡ 0 → ⊥
 unfolding soundOf
 collecting-sound last c busy p slots =
     let h = heldOf (c .lens) in
-    let i : idOf last c ≡ true = and-true (not (ltb 0x3F (c .id))) (not (eqb (c .id) last)) (ap not (le-ltb 0x3F (c .id) (p .known))) (ap not (ne-eqb (c .id) last (p .other))) in
-    let s : someOf c ≡ true = and-true (not (eqb h 0)) (not (leb (c .total) h)) (ap not (ne-eqb h 0 (p .some))) (ap not (lt-leb (c .total) h (p .missing))) in
-    let t : not (ltb 6 (c .total)) ≡ true = ap not (le-ltb 6 (c .total) (p .most)) in
-    let all = and-true (idOf last c) (not (ltb 6 (c .total)) and someOf c) i (and-true (not (ltb 6 (c .total))) (someOf c) t s) in
-    and-true _ _ (when-false (eqb (c .total) 0) (eqb (c .id) 0) (idOf last c and not (ltb 6 (c .total)) and someOf c) (ne-eqb (c .total) 0 busy) ∙ all) slots
+    let i : idOf last c ≡ true = and-true (leb (c .id) 0x3F) (not (eqb (c .id) last)) (le-leb (c .id) 0x3F (p .known)) (ap not (ne-eqb (c .id) last (p .other))) in
+    let s : someOf c ≡ true = and-true (not (eqb h 0)) (ltb h (c .total)) (ap not (ne-eqb h 0 (p .some))) (lt-ltb h (c .total) (p .missing)) in
+    let t : leb (c .total) 6 ≡ true = le-leb (c .total) 6 (p .most) in
+    let all = and-true (idOf last c) (leb (c .total) 6 and someOf c) i (and-true (leb (c .total) 6) (someOf c) t s) in
+    and-true _ _ (when-false (eqb (c .total) 0) (eqb (c .id) 0) (idOf last c and leb (c .total) 6 and someOf c) (ne-eqb (c .total) 0 busy) ∙ all) slots
 
 -- an empty slot obeys the rules everywhere
 rule-none : (total position : ℕ) → ruleOf total position 0 ≡ true

@@ -46,28 +46,29 @@ slots-at total lens room i h =
     rest
 
 module _ (total : ℕ) (lens room : List ℕ) (i : ℕ) (within : i < length lens) where
-  pub slot-wrong : ruleOf total i (getD lens i 0) ≡ false → slotsOf total i (drop i lens) (drop (14 * i) room) ≡ false
-  slot-wrong e =
+  -- the slots from here on, by the rule of the first
+  by-rule : (t : Bool) → ruleOf total i (getD lens i 0) ≡ t
+      → slotsOf total i (drop i lens) (drop (14 * i) room)
+      ≡ t
+      and zerosOf (take (14 - getD lens i 0) (drop (14 * i + getD lens i 0) room))
+      and slotsOf total (i + 1) (drop (i + 1) lens) (drop (14 * (i + 1)) room)
+  by-rule t e =
       slots-at total lens room i within
       ∙ ap
-      (λ (t : Bool).
-      t
+      (λ (u : Bool).
+      u
       and zerosOf (take (14 - getD lens i 0) (drop (14 * i + getD lens i 0) room))
       and slotsOf total (i + 1) (drop (i + 1) lens) (drop (14 * (i + 1)) room))
       e
+
+  pub slot-wrong : ruleOf total i (getD lens i 0) ≡ false → slotsOf total i (drop i lens) (drop (14 * i) room) ≡ false
+  slot-wrong e = by-rule false e
 
   module _ (right : ruleOf total i (getD lens i 0) ≡ true) where
     right-slot : slotsOf total i (drop i lens) (drop (14 * i) room)
         ≡ zerosOf (take (14 - getD lens i 0) (drop (14 * i + getD lens i 0) room))
         and slotsOf total (i + 1) (drop (i + 1) lens) (drop (14 * (i + 1)) room)
-    right-slot =
-        slots-at total lens room i within
-        ∙ ap
-        (λ (t : Bool).
-        t
-        and zerosOf (take (14 - getD lens i 0) (drop (14 * i + getD lens i 0) room))
-        and slotsOf total (i + 1) (drop (i + 1) lens) (drop (14 * (i + 1)) room))
-        right
+    right-slot = by-rule true right
 
     pub slot-unclean : zerosOf (take (14 - getD lens i 0) (drop (14 * i + getD lens i 0) room)) ≡ false
         → slotsOf total i (drop i lens) (drop (14 * i) room) ≡ false

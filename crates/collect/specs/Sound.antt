@@ -10,14 +10,14 @@ use Rattle.collect.specs.declared.Collection.{Collection}
 
 -- the ID is one of a packet with data, and isn't the last completed
 abbrev pub idOf : ℕ → Collection → Bool
-idOf last c = not (ltb 0x3F (c .id)) and not (eqb (c .id) last)
+idOf last c = leb (c .id) 0x3F and not (eqb (c .id) last)
 
 -- at least one and not all there
 abbrev pub someOf : Collection → Bool
-someOf c = not (eqb (heldOf (c .lens)) 0) and not (leb (c .total) (heldOf (c .lens)))
+someOf c = not (eqb (heldOf (c .lens)) 0) and ltb (heldOf (c .lens)) (c .total)
 
 -- none collected: no ID; otherwise the ID, the total and the count are right; and the slots in either case
 unfoldable pub soundOf : ℕ → Collection → Bool
 soundOf last c =
-    when (eqb (c .total) 0) (eqb (c .id) 0) (idOf last c and not (ltb 6 (c .total)) and someOf c)
+    when (eqb (c .total) 0) (eqb (c .id) 0) (idOf last c and leb (c .total) 6 and someOf c)
     and slotsOf (c .total) 0 (c .lens) (c .room)

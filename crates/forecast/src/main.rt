@@ -2,8 +2,8 @@
 // ready`, `end never`, or `refused N at P`.
 use libc::STDIN_FILENO;
 use libc::STDOUT_FILENO;
-use machine::Foretold;
-use machine::Totals;
+use reckon::Foretold;
+use reckon::Totals;
 
 // A word, a number and a line end.
 fn line(word: &[u8], n: u64) {
@@ -34,7 +34,7 @@ fn main() {
     // More than any body holds, so that a longer input is refused as one.
     let mut buffer = [0u8; 128];
     let got = io::read_full(STDIN_FILENO, &mut buffer);
-    let told = machine::forecast(&buffer[..got], 4, 1);
+    let told = reckon::forecast(&buffer[..got], 4, 1);
     match told {
         Foretold::Ends(totals) => ends(totals),
         Foretold::Endless => {

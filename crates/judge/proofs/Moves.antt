@@ -16,7 +16,7 @@ use Rattle.program.specs.declared.Form.the-variants.{Text, Bare, Number}
 use Rattle.program.specs.declared.Command.{Command}
 use Rattle.program.specs.declared.Reading.{Reading}
 use Rattle.program.specs.declared.Reading.the-variants.{Good, Refused}
-use Rattle.basis.proofs.Bools.{and-left, and-right}
+use Rattle.basis.proofs.Choices.{and-parts}
 use Rattle.program.proofs.Rows.{row-holds}
 use Rattle.program.proofs.Laws.{Made, made, at-least-two, bare-ends}
 use Rattle.judge.specs.Token.{roleOf, Act, Part, act, rep, close, forever, again, Tok, good, bad, sizeOf, partOf, actOf, tokOf, get}
@@ -74,8 +74,8 @@ module _ (b : List ℕ) (p : ℕ) (c : Command) (e : readOf b p ≡ Good c) wher
   two-bytes : (is-bare (made b p c e .form) and eqb (made b p c e .letters) 2 ≡ true) → c .next ≡ p + 2
   two-bytes t =
       let m = made b p c e in
-      let f = bare-is (m .form) (and-left (is-bare (m .form)) _ t) in
-      let n = eqb-true (m .letters) 2 (and-right (is-bare (m .form)) _ t) in
+      let f = bare-is (m .form) (and-parts (is-bare (m .form)) _ t .0) in
+      let n = eqb-true (m .letters) 2 (and-parts (is-bare (m .form)) _ t .1) in
       let z = bare-ends b p c m f in
       omega arith
 

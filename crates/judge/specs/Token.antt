@@ -6,7 +6,7 @@ use lib.Dec.{ltb}
 use lib.ListN.{length, take, drop}
 use Rattle.basis.specs.Choice.{when}
 use Rattle.program.specs.Command.{readOf}
-use Rattle.program.specs.Width.{widthOf}
+use Rattle.measure.specs.Width.{widthOf}
 use Rattle.program.specs.declared.Kind.{Kind}
 use Rattle.program.specs.declared.Kind.the-variants.{II, IA, IB, S, L, E, F, R, XS, XF, P, Scans, W, XD, XB, Y}
 use Rattle.program.specs.declared.Command.{Command}

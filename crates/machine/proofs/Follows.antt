@@ -19,7 +19,6 @@ use Rattle.judge.specs.declared.Standing.{Standing}
 use Rattle.judge.specs.declared.Standing.the-variants.{Outside}
 use Rattle.judge.proofs.Standings.{At, at-stands}
 use Rattle.course.specs.Steps.{Frame, frame, State, ready, at, Said, nextOf, saidOf, afterOf, answersOf, started, settle}
-use Rattle.course.proofs.Accepts.{Yes}
 use Rattle.course.proofs.Programs.{accepting}
 use Rattle.course.proofs.Runs.{settle-at}
 use Rattle.machine.specs.Sound.{zerosOf, bodyOf, heldOf, soundOf}
@@ -28,6 +27,7 @@ use Rattle.machine.specs.declared.Answer.{Answer}
 use Rattle.machine.specs.declared.Run.{Run}
 use Rattle.machine.specs.declared.Stepped.{Stepped}
 use Rattle.machine.proofs.Keeps.{Normal, Kept, run-keeps, step-ready, step-busy}
+use Rattle.machine.proofs.Reached.{accepted-yes}
 use Rattle.machine.proofs.Sounds.{running}
 
 -- a run of the same body, in any state
@@ -35,7 +35,7 @@ same-body : (r : Run) (p : ℕ) (fs : List Frame) (σ : Settings) (s : State) �
 same-body r p fs σ (ready τ) = refl
 same-body r p fs σ (at q gs τ) = refl
 
-ready-none : (σ : Settings) → readyOf σ .len ≡ 0
+pub ready-none : (σ : Settings) → readyOf σ .len ≡ 0
 unfolding readyOf
 ready-none σ = refl
 
@@ -88,10 +88,6 @@ first-outside : (b : List ℕ) (e : Bool) → judgeOf b ≡ acceptedAs e → 0 <
 first-outside b e a within =
     at-stands b 0 Outside
     (record { endless = e; accepted = a; within = within; room = 1; ended = false; opens = []; reached = start; stands = refl })
-
-accepted-yes : (e : Bool) → Yes (acceptedAs e)
-accepted-yes true = tt
-accepted-yes false = tt
 
 module _ (b : List ℕ) (e : Bool) (accepted : judgeOf b ≡ acceptedAs e) (σ : Settings) (set : settingsSound σ ≡ true) where
   -- the record of a body just started holds that body

@@ -9,9 +9,9 @@ use native.Mathlib.Omega.{arith}
 use lib.Dec.{eqb, ltb, leb}
 use lib.ListN.{length, take, drop, length-take}
 use lib.Seq.{length-take-le}
-use borrow.Author.Tests.{lt-ltb, le-ltb, le-leb, lt-leb, eq-eqb, ne-eqb, eqb-true, eqb-false, leb-true, ltb-false, not-true}
+use borrow.Author.Tests.{le-leb, lt-leb, eq-eqb, ne-eqb, eqb-true, eqb-false}
 use Rattle.basis.specs.Choice.{when, _and_}
-use Rattle.basis.proofs.Choices.{when-true, when-false, and-parts, and-true}
+use Rattle.basis.proofs.Choices.{when-true, when-false, and-parts, and-true, within-parts, within-true}
 use Rattle.basis.proofs.Tests.{tests}
 use Rattle.program.specs.Command.{readOf}
 use Rattle.program.specs.declared.Kind.{Kind}
@@ -110,18 +110,18 @@ inside-held : (behind number : ℕ) (l : Inner) → heldOf (Inside behind number
     → (framesOf l ≡ frame behind (l .left) ∷ []) × ((1 ≤ l .left) × (l .left ≤ number))
 inside-held behind number l h =
     let p = and-parts (eqb (l .place) behind) _ h in
-    let q = and-parts (not (ltb (l .left) 1)) (leb (l .left) number) (p .1) in
-    let least : 1 ≤ l .left = ltb-false (l .left) 1 (not-true (ltb (l .left) 1) (q .0)) in
+    let q = within-parts 1 (l .left) number (p .1) in
+    let least = q .0 in
     let place = eqb-true (l .place) behind (p .0) in (
       when-false (eqb (l .left) 0) _ _ (ne-eqb (l .left) 0 (λ z. omega arith)) ∙ ap (λ (n : ℕ). frame n (l .left) ∷ []) place,
-      (least, leb-true (l .left) number (q .1)),
+      q,
     )
 
 -- and such a loop is held
 holds-inside : (behind number left : ℕ) → 1 ≤ left → left ≤ number → heldOf (Inside behind number) (record { place = behind; left = left }) ≡ true
 holds-inside behind number left least most =
     and-true (eqb behind behind) _ (eq-eqb behind behind refl)
-    (and-true (not (ltb left 1)) (leb left number) (ap not (le-ltb left 1 least)) (le-leb left number most))
+    (within-true 1 left number least most)
 
 module _ (r : Run) (shaped : length (r .body) ≡ 84) (sound : soundOf r ≡ true) (busy : r .len ≡ 0 → ⊥)
     (x : At (bodyOf r) (r .place) (standOf (bodyOf r) (r .place))) where

@@ -1,15 +1,9 @@
 pub mod Commands
-pub mod Demand
 pub mod Follows
-pub mod Forecasts
 pub mod Keeps
 pub mod Lines
 pub mod Moves
 pub mod Ranges
 pub mod Reached
-pub mod Reckons
-pub mod Small
 pub mod Sounds
-pub mod Sums
-pub mod Wholes
 pub mod Blanks

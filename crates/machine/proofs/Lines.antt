@@ -14,11 +14,12 @@ use Rattle.judge.specs.Verdict.{judgeOf}
 use Rattle.judge.specs.Grammar.{acceptedAs}
 use Rattle.judge.specs.declared.Verdict.the-variants.{Finite, Endless}
 use Rattle.course.specs.Steps.{State, ready, at, Said, did, Busy, settle, started, afterOf, answersOf}
-use Rattle.course.specs.Tree.{unrolled, exitOf}
+use Rattle.course.specs.Tree.{exitOf}
 use Rattle.course.proofs.Programs.{treeIn, program}
 use Rattle.course.proofs.Runs.{settle-at}
 use Rattle.course.proofs.Theorem.{Ends, finite-ends, endless-never}
-use Rattle.machine.specs.Sound.{bodyOf, soundOf}
+use Rattle.machine.specs.Line.{lineOf, performed as answersFor}
+use Rattle.machine.specs.Sound.{soundOf}
 use Rattle.machine.specs.Step.{outside, readyOf, runOf, sayOf, afterRun, saidRun, startedOf}
 use Rattle.machine.specs.declared.Answer.{Answer}
 use Rattle.machine.specs.declared.Answer.the-variants.{Did}
@@ -61,27 +62,23 @@ module _ (b : List ℕ) (e : Bool) (accepted : judgeOf b ≡ acceptedAs e) (σ :
   busy-run some (ready τ) h = absurd h
   busy-run some (at p fs τ) h = λ w. omega arith
 
--- performed commands as answers
-abbrev pub dids : List Performed → List Answer
-dids [] = []
-dids (x ∷ xs) = Did x ∷ dids xs
-
-dids-are : (xs : List Performed) → map sayOf (map did xs) ≡ dids xs
-dids-are [] = refl
-dids-are (x ∷ xs) = ap (λ (ys : List Answer). Did x ∷ ys) (dids-are xs)
+-- what the states say is what the records answer
+said-are : (xs : List Performed) → map sayOf (map did xs) ≡ answersFor xs
+said-are [] = refl
+said-are (x ∷ xs) = ap (λ (ys : List Answer). Did x ∷ ys) (said-are xs)
 
 -- a finite program that was started
 pub record LineEnds (b : List ℕ) (σ : Settings) : Type 0 where
-  pub ready-then : afterRun (length (unrolled (treeIn b .block) σ)) (startedOf b σ) ≡ readyOf (exitOf (treeIn b .block) σ)
-  pub busy-before : (k : ℕ) → k < length (unrolled (treeIn b .block) σ) → BusyRun (afterRun k (startedOf b σ))
-  pub performed : saidRun (length (unrolled (treeIn b .block) σ)) (startedOf b σ) ≡ dids (unrolled (treeIn b .block) σ)
-  pub most : length (unrolled (treeIn b .block) σ) ≤ 3961
+  pub ready-then : afterRun (length (lineOf b σ)) (startedOf b σ) ≡ readyOf (exitOf (treeIn b .block) σ)
+  pub busy-before : (k : ℕ) → k < length (lineOf b σ) → BusyRun (afterRun k (startedOf b σ))
+  pub performed : saidRun (length (lineOf b σ)) (startedOf b σ) ≡ answersFor (lineOf b σ)
+  pub most : length (lineOf b σ) ≤ 3961
 
 pub line-ends : (b : List ℕ) → judgeOf b ≡ Finite → (σ : Settings) → settingsSound σ ≡ true → LineEnds b σ
 line-ends b e σ set =
     let p = program b Finite e tt in
     let t = finite-ends b e σ in
-    let xs = unrolled (treeIn b .block) σ in
+    let xs = lineOf b σ in
     let n = length xs in
     let r = startedOf b σ in
     record {
@@ -89,7 +86,7 @@ line-ends b e σ set =
       busy-before = λ k less.
           subst BusyRun (sym (line-follows b false e σ set (p .some) k))
           (busy-run b false e σ set (p .some) (afterOf (get b) (length b) k (started (length b) σ)) (t .busy-before k less));
-      performed = line-says b false e σ set (p .some) n ∙ ap (map sayOf) (t .performed) ∙ dids-are xs;
+      performed = line-says b false e σ set (p .some) n ∙ ap (map sayOf) (t .performed) ∙ said-are xs;
       most = t .most;
     }
 

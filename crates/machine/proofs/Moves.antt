@@ -11,7 +11,7 @@ use lib.ListN.{take, drop}
 use borrow.Author.Tests.{lt-ltb, le-ltb, le-leb, lt-leb, ne-eqb}
 use Rattle.basis.specs.Choice.{when}
 use Rattle.basis.proofs.Choices.{when-true, when-false}
-use Rattle.program.specs.Width.{widthOf}
+use Rattle.measure.specs.Width.{widthOf}
 use Rattle.program.specs.Command.{readOf}
 use Rattle.program.specs.declared.Kind.{Kind}
 use Rattle.program.specs.declared.Command.{Command}

@@ -126,7 +126,7 @@ here-by b p m false o v (good c) g j y = go (structureOf (roleIn c) m (opened p 
     go broken q w = absurd (refusal-no 26 p v w y)
     go (kept m′ e′ o′) q w = record { part = c; there = g; going = refl; room = m′; ended = e′; opens = o′; stays = q }
 
-accepted-yes : (e : Bool) → Yes (acceptedAs e)
+pub accepted-yes : (e : Bool) → Yes (acceptedAs e)
 accepted-yes true = tt
 accepted-yes false = tt
 

@@ -1,13 +1,13 @@
 -- Soundness, part by part: which part decides where those before it hold.
 use Prim.Native.Nat.{ℕ, _-_, _≤_, _<_}
 use mathlib.Core.List.{List}
-use mathlib.Core.Bool.{Bool, true, false, not}
+use mathlib.Core.Bool.{true, false}
 use mathlib.Core.Path.{_≡_, refl, sym, ap, _∙_}
 use native.Mathlib.Omega.{arith}
 use lib.ListN.{length, take, drop, length-drop}
 use lib.Seq.{take-all}
-use lib.Dec.{ltb}
-use borrow.Author.Tests.{ltb-false, not-true}
+use lib.Dec.{leb}
+use borrow.Author.Tests.{leb-true}
 use Rattle.basis.proofs.Choices.{and-parts}
 use Rattle.basis.proofs.Tests.{tests}
 use Rattle.program.specs.Command.{readOf}
@@ -62,10 +62,10 @@ pub record Parts (r : Run) : Type 0 where
 pub sound-parts : (r : Run) → soundOf r ≡ true → Parts r
 unfolding soundOf
 sound-parts r e =
-    let a = and-parts (not (ltb 84 (r .len))) _ e in
+    let a = and-parts (leb (r .len) 84) _ e in
     let b = and-parts (zerosOf (drop (r .len) (r .body))) _ (a .1) in
     let c = and-parts (settingsSound (r .settings)) _ (b .1) in
-    let fits : r .len ≤ 84 = ltb-false 84 (r .len) (not-true (ltb 84 (r .len)) (a .0)) in
+    let fits : r .len ≤ 84 = leb-true (r .len) 84 (a .0) in
     record {
       fits = fits;
       clean = b .0;

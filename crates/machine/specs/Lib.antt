@@ -1,6 +1,4 @@
-pub mod Forecast
+pub mod Line
 pub mod Moves
-pub mod Reckon
 pub mod Sound
 pub mod Step
-pub mod Totals

@@ -4,10 +4,10 @@
 -- from 1 to its number inside a loop (at its closing command too), both 0 outside."
 use Prim.Native.Nat.{ℕ}
 use mathlib.Core.List.{List, [], _∷_}
-use mathlib.Core.Bool.{Bool, true, false, not}
-use lib.Dec.{eqb, ltb, leb}
+use mathlib.Core.Bool.{Bool, true, false}
+use lib.Dec.{eqb, leb}
 use lib.ListN.{take, drop}
-use Rattle.basis.specs.Choice.{when, _and_}
+use Rattle.basis.specs.Choice.{when, _and_, within}
 use Rattle.judge.specs.Standing.{standOf}
 use Rattle.judge.specs.declared.Standing.{Standing}
 use Rattle.judge.specs.declared.Standing.the-variants.{Nowhere, Outside, Inside}
@@ -32,11 +32,11 @@ restsOf place l = eqb place 0 and eqb (l .place) 0 and eqb (l .left) 0
 abbrev pub heldOf : Standing → Loop → Bool
 heldOf Nowhere l = false
 heldOf Outside l = eqb (l .place) 0 and eqb (l .left) 0
-heldOf (Inside behind number) l = eqb (l .place) behind and not (ltb (l .left) 1) and leb (l .left) number
+heldOf (Inside behind number) l = eqb (l .place) behind and within 1 (l .left) number
 
 unfoldable pub soundOf : Run → Bool
 soundOf r =
-    not (ltb 84 (r .len))
+    leb (r .len) 84
     and zerosOf (drop (r .len) (r .body))
     and settingsSound (r .settings)
     and when (eqb (r .len) 0) (restsOf (r .place) (r .inner)) (heldOf (standOf (bodyOf r) (r .place)) (r .inner))

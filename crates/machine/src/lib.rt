@@ -1,18 +1,14 @@
-// A running program ("One step, and what it costs"): its record, one step of it, and the forecast of all its steps.
+// A running program ("One step, and what it costs"): its record and one step of it. The crate `reckon` forecasts all its steps.
 //   sound    which runs are sound                                  "Ready has no body .. Busy .. has an accepted body and a place
 //            at a command, .."
 //   steps    one step: a command performed and the next run        "A step performs one command and answers .."
-mod reckon;
+// specs/Line has the commands that a body performs, which the forecast and the promises speak of.
 mod sound;
 mod steps;
-mod totals;
 
 use perform::Performed;
 use perform::Settings;
-pub use reckon::Foretold;
-pub use reckon::forecast;
 pub use sound::zeros;
-pub use totals::Totals;
 
 // The open loop: the place behind its `L` and the count left, both 0 outside loops.
 pub struct Loop {

@@ -7,34 +7,22 @@ use crate::Run;
 use crate::Stepped;
 use judge::Role;
 use judge::role_of;
+use measure::text_width;
 use perform::Settings;
 use perform::perform;
 use program::Command;
 use program::Kind;
 use program::Reading;
 use program::read_command;
-use program::width;
 ghost use mathlib.Core.Path.{_≡_};
 ghost use mathlib.Core.List.{[]};
 ghost use mathlib.Core.Bool.{true};
-ghost use Prim.Native.Nat.{_+_, _≤_};
-ghost use lib.ListN.{length, take, drop};
-ghost use Rattle.program.specs.Width.{widthOf};
 ghost use Rattle.program.specs.Command.{readOf};
 ghost use Rattle.program.specs.declared.Reading.the-variants.{Good};
 ghost use Rattle.judge.specs.Token.{roleOf};
 ghost use Rattle.machine.specs.Sound.{soundOf};
 ghost use Rattle.machine.specs.Step.{framesOf, loopOf, readyOf, runOf, wentOf, stepOf};
 ghost use Rattle.machine.specs.Moves.{settledOf, closedOf, returnedOf, movedOf, ranOf};
-
-// The width of a text that lies within the body.
-pub(crate) fn text_width(body: &[u8], text: usize, len: usize) -> usize
-    requires { ⌜ (text + len ≤ length (now body)) × (length (now body) ≤ 84) ⌝ }
-    ensures { λ r. ⌜ r ≡ widthOf (take len (drop text (now (body .entry)))) ⌝ }
-{
-    let end = text + len;
-    width(&body[text..end])
-}
 
 // No loop is open.
 fn none() -> Loop

@@ -1,9 +1,6 @@
-pub mod Frame
 pub mod Laying
 pub mod Parts
-pub mod ReadBack
-pub mod Refusals
 pub mod Replies
+pub mod Seals
 pub mod Stands
-pub mod Unique
 pub mod Writing

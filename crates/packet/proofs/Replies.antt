@@ -1,29 +1,29 @@
--- Replies: what was written reads back, what is accepted is the one reply of its fields, and no reply is taken for a packet.
-use Prim.Native.Nat.{ℕ, zero, suc, _+_, _-_, _*_, _/_, _%_, _≤_, _<_}
+-- Replies: what was written reads back, and what is accepted is the one reply of its fields.
+use Prim.Native.Nat.{ℕ, _%_, _≤_, _<_}
 use mathlib.Core.Path.{_≡_, refl, sym, ap, _∙_}
 use mathlib.Core.List.{List, [], _∷_, _++_}
 use mathlib.Core.Bool.{Bool, true, false}
 use native.Mathlib.Omega.{arith}
-use lib.ListN.{length, take, getD}
+use lib.ListN.{length, getD}
 use lib.Seq.{take-suc}
 use lib.Dec.{eqb}
 use borrow.Author.Tests.{eqb-true}
 use Rattle.basis.specs.Bytes.{sum, Bytes}
 use Rattle.basis.specs.Choice.{when, _and_, _or_}
-use Rattle.basis.specs.Rows.{firstOf, applies}
 use Rattle.basis.proofs.Bytes.{five-front}
 use Rattle.basis.proofs.Choices.{when-true, and-true, and-parts}
 use Rattle.basis.proofs.Tests.{tests}
-use Rattle.packet.specs.Wire.{checkOf, sealed, turned, stateOf, auxOf, replyOf}
-use Rattle.packet.specs.Read.{readOf, rowsOf}
+use Rattle.packet.specs.Wire.{sealed, turned, stateOf, auxOf, replyOf}
 use Rattle.packet.specs.Reply.{isLast, isReply, statusOf, heardOf}
-use Rattle.packet.specs.declared.read.Reading.the-variants.{Refused as RefusedPacket}
 use Rattle.packet.specs.declared.reply.Status.{Status}
 use Rattle.packet.specs.declared.reply.Status.the-variants.{Heard, Refused}
-use Rattle.packet.proofs.Frame.{reply-right}
-use Rattle.packet.proofs.ReadBack.{balanced}
-use Rattle.packet.proofs.Refusals.{refused-where}
-use Rattle.packet.proofs.Unique.{only-seal}
+use Rattle.packet.proofs.Seals.{balanced, only-seal}
+
+-- a reply's frame that is right is read by the three bytes that tell
+pub reply-right : (mid : ℕ) (b : List ℕ) → length b ≡ 8 → sum b % 256 ≡ 0 → getD b 0 0 ≡ turned mid → getD b 1 0 ≡ 0x7F
+    → getD b 2 0 ≡ 8 → getD b 6 0 ≡ 0 → heardOf mid b ≡ statusOf (getD b 3 0) (getD b 4 0) (getD b 5 0)
+unfolding heardOf
+reply-right mid b size balanced from-it marked count ended = search tests
 
 -- the bytes of a reply sum to 0
 pub reply-balanced : (mid last : ℕ) (busy sink : Bool) → sum (replyOf mid last busy sink) % 256 ≡ 0
@@ -44,17 +44,6 @@ unfolding replyOf
 reply-reads mid last busy sink known =
     reply-right mid (replyOf mid last busy sink) refl (reply-balanced mid last busy sink) refl refl refl refl
     ∙ letters-tell last busy sink known
-
--- number 11 applies to every reply, whoever reads it: both letters say that more packets follow
-eleven : (m mid last : ℕ) (busy sink : Bool) → applies 11 (rowsOf m (replyOf mid last busy sink)) ≡ true
-unfolding replyOf
-eleven m mid last true sink = refl
-eleven m mid last false sink = refl
-
--- so no reply is an accepted packet, for the turned MID or any other
-pub no-packet : (m mid last : ℕ) (busy sink : Bool)
-    → readOf m (replyOf mid last busy sink) ≡ RefusedPacket (firstOf (rowsOf m (replyOf mid last busy sink)))
-no-packet m mid last busy sink = refused-where m (replyOf mid last busy sink) 11 (eleven m mid last busy sink)
 
 -- a byte that is one of two letters is the letter that the test between them names
 letter : (x one other : ℕ) (t : Bool) → eqb x one or eqb x other ≡ true → eqb x one ≡ t → x ≡ when t one other

@@ -1,13 +1,17 @@
--- Packet p of a transmission stands at byte 21 p: what a receiver cuts off there by the packet's count is that packet.
+-- What stands where: packet p of a transmission at byte 21 p, its data at its bytes 5 on, what was written at the buffer's front.
 use Prim.Native.Nat.{ℕ, zero, suc, _+_, _-_, _*_, _≤_, _<_, min}
-use mathlib.Core.Path.{_≡_, refl, sym, ap, _∙_}
+use mathlib.Core.Path.{_≡_, sym, ap, _∙_}
 use mathlib.Core.List.{List, [], _∷_, _++_}
 use mathlib.Core.Logic.{dite}
 use native.Mathlib.Decide.{decLt}
 use native.Mathlib.Omega.{arith}
-use lib.ListN.{length, take, drop, getD, length-append, length-drop}
+use lib.ListN.{length, take, drop, getD, length-drop}
 use lib.Seq.{drop-append-le, take-append-le, drop-at, take-length}
-use Rattle.packet.specs.Wire.{totalOf, partOf, packetOf, packetAt, packetsOf, transmissionOf}
+use Rattle.basis.specs.Rows.{Row, firstOf}
+use Rattle.basis.proofs.Laid.{take-laid, drop-laid}
+use Rattle.packet.specs.Wire.{checkOf, frontOf, totalOf, partOf, packetOf, packetAt, packetsOf, transmissionOf}
+use Rattle.packet.specs.Write.{Writes, answerOf, bufferOf}
+use Rattle.packet.specs.declared.write.Written.the-variants.{Wrote}
 use Rattle.packet.proofs.Parts.{packet-length, part-length, packets-length}
 
 -- the length of one packet of a body
@@ -53,3 +57,22 @@ packet-stands mid id body p below = stands-among mid id body (totalOf body) p be
 pub count-stands : (mid id fifth : ℕ) (part : List ℕ) → getD (packetOf mid id fifth part) 2 0 ≡ length (packetOf mid id fifth part)
 unfolding packetOf
 count-stands mid id fifth part = sym (packet-length mid id fifth part)
+
+-- the data stand at bytes 5 on
+pub part-stands : (mid id fifth : ℕ) (part : List ℕ) → take (length part) (drop 5 (packetOf mid id fifth part)) ≡ part
+unfolding packetOf
+part-stands mid id fifth part =
+    take-append-le (length part) part (0 ∷ checkOf (frontOf mid id fifth part) ∷ []) (omega arith) ∙ take-length part
+
+-- what a writer wrote stands at the front of the buffer, and what stood behind stands there still
+pub written-stands : (rows : List Row) (bytes out after : List ℕ) (n : ℕ) → Writes rows bytes out (Wrote n) after
+    → (take n after ≡ bytes) × (drop n after ≡ drop n out)
+written-stands rows bytes out after n w = go (firstOf rows) (w .answered) (w .left)
+  where
+    go : (k : ℕ) → Wrote n ≡ answerOf k bytes → after ≡ bufferOf k bytes out → (take n after ≡ bytes) × (drop n after ≡ drop n out)
+    go zero a l =
+        let e : n ≡ length bytes = cc in (
+          ap (λ (m : ℕ). take m after) e ∙ ap (take (length bytes)) l ∙ take-laid bytes out,
+          ap (λ (m : ℕ). drop m after) e ∙ ap (drop (length bytes)) l ∙ drop-laid bytes out ∙ ap (λ (m : ℕ). drop m out) (sym e),
+        )
+    go (suc k) a l = let z : _≡_ {A = ℕ} 0 1 = cc in (absurd (omega arith), absurd (omega arith))

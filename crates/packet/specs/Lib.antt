@@ -1,4 +1,3 @@
-pub mod Read
 pub mod Reply
 pub mod Wire
 pub mod Write

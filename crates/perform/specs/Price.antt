@@ -7,7 +7,7 @@ use mathlib.Core.Bool.{Bool, true, false}
 use lib.Dec.{eqb}
 use Rattle.basis.specs.Choice.{when}
 use Rattle.units.specs.Units.{sumOf, scansOf as scansEach, millisOf as millisAt}
-use Rattle.program.specs.Width.{fitsOf, columnOf as centred}
+use Rattle.measure.specs.Width.{fitsOf, columnOf as centred}
 use Rattle.program.specs.declared.Kind.{Kind}
 use Rattle.program.specs.declared.Kind.the-variants.{II, IA, IB, S, L, E, F, R, XS, XF, P, Scans, W, XD, XB, Y}
 use Rattle.perform.specs.declared.price.Doing.{Doing}

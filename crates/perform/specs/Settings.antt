@@ -2,9 +2,9 @@
 -- 01: "Pace and scan setting last until changed or reset"; "`XB`: above 31 acts as 31, 0 and 1 end forcing"; of a sound record
 -- "pace, scans, threshold in range, brightness 0 or 2 to 31".
 use Prim.Native.Nat.{ℕ, min}
-use mathlib.Core.Bool.{Bool, true, false, not}
-use lib.Dec.{eqb, ltb, leb}
-use Rattle.basis.specs.Choice.{when, _and_}
+use mathlib.Core.Bool.{Bool, true, false}
+use lib.Dec.{eqb, ltb}
+use Rattle.basis.specs.Choice.{when, _and_, _or_, within}
 use Rattle.program.specs.declared.Kind.{Kind}
 use Rattle.program.specs.declared.Kind.the-variants.{II, IA, IB, S, L, E, F, R, XS, XF, P, Scans, W, XD, XB, Y}
 use Rattle.perform.specs.declared.settings.Settings.{Settings}
@@ -69,13 +69,14 @@ changesOf Y n = none
 abbrev pub behindOf : Kind → ℕ → Settings → Settings
 behindOf k n σ = applied (changesOf k n) σ
 
--- 1 to 20, 1 to 6, 1 to 255, 0 or 2 to 31
+-- not forced, or 2 to 31
+abbrev pub brightOf : ℕ → Bool
+brightOf n = eqb n 0 or within 2 n 31
+
+-- each setting in the range that its command takes, and brightness 0 or 2 to 31
 unfoldable pub soundOf : Settings → Bool
 soundOf σ =
-    not (ltb (σ .pace) 1)
-    and not (ltb 20 (σ .pace))
-    and not (ltb (σ .scans) 1)
-    and not (ltb 6 (σ .scans))
-    and not (ltb (σ .dim) 1)
-    and not (eqb (σ .bright) 1)
-    and leb (σ .bright) 31
+    within 1 (σ .pace) 20
+    and within 1 (σ .scans) 6
+    and within 1 (σ .dim) 255
+    and brightOf (σ .bright)

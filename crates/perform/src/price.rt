@@ -1,9 +1,9 @@
 // What a command answers when it is performed, with its price in scans and milliseconds. Answers to 01: "A step performs one
 // command and answers its kind ..", "`S` with width 0 costs nothing. ..".
 use crate::Settings;
+use measure::fits;
+use measure::start_column;
 use program::Kind;
-use program::fits;
-use program::start_column;
 use units::Millis;
 use units::Scans;
 use units::Shifts;

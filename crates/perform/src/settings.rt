@@ -46,7 +46,10 @@ impl Settings {
         if self.dim < 1 {
             return false;
         }
-        if self.bright == 1 {
+        if self.bright == 0 {
+            return true;
+        }
+        if self.bright < 2 {
             return false;
         }
         self.bright <= 31

@@ -26,7 +26,7 @@ use Rattle.program.specs.declared.Parameter.the-variants.{Right, Wrong}
 use Rattle.program.specs.declared.Command.{Command}
 use Rattle.program.specs.declared.Reading.{Reading}
 use Rattle.program.specs.declared.Reading.the-variants.{Good, Refused}
-use Rattle.basis.proofs.Bools.{and-left, and-right}
+use Rattle.basis.proofs.Choices.{and-parts}
 use Rattle.program.proofs.Rows.{row-plain, row-no-caret}
 use Rattle.program.proofs.Parameters.{Ends, ends}
 
@@ -118,7 +118,7 @@ param-within (x ∷ s) = go (eqb x caret) (param-within s)
 begins-within : (ls s : List ℕ) → begins ls s ≡ true → length ls ≤ length s
 begins-within [] s e = omega arith
 begins-within (l ∷ ls) [] e = let z : _≡_ {A = ℕ} 0 1 = cc in absurd (omega arith)
-begins-within (l ∷ ls) (x ∷ s) e = let h = begins-within ls s (and-right (eqb x l) _ e) in omega arith
+begins-within (l ∷ ls) (x ∷ s) e = let h = begins-within ls s (and-parts (eqb x l) _ e .1) in omega arith
 
 row-within : (rows : List Line) (s : List ℕ) (k : Kind) (f : Form) (n : ℕ) → rowAt rows s ≡ Known k f n → n ≤ length s
 row-within [] s k f n e = let z : _≡_ {A = ℕ} 0 1 = cc in absurd (omega arith)
@@ -183,8 +183,8 @@ param-plain (x ∷ s) i h e = go (eqb x caret) refl i h e (param-plain s)
 begins-same : (ls s : List ℕ) → begins ls s ≡ true → (i : ℕ) → i < length ls → getD s i 0 ≡ getD ls i 0
 begins-same [] s e i h = absurd (omega arith)
 begins-same (l ∷ ls) [] e i h = let z : _≡_ {A = ℕ} 0 1 = cc in absurd (omega arith)
-begins-same (l ∷ ls) (x ∷ s) e zero h = eqb-true x l (and-left (eqb x l) _ e)
-begins-same (l ∷ ls) (x ∷ s) e (suc i) h = begins-same ls s (and-right (eqb x l) _ e) i (omega arith)
+begins-same (l ∷ ls) (x ∷ s) e zero h = eqb-true x l (and-parts (eqb x l) _ e .0)
+begins-same (l ∷ ls) (x ∷ s) e (suc i) h = begins-same ls s (and-parts (eqb x l) _ e .1) i (omega arith)
 
 no-carets : List ℕ → Bool
 no-carets [] = true
@@ -193,8 +193,8 @@ no-carets (x ∷ xs) = not (eqb x caret) and no-carets xs
 no-caret-at : (xs : List ℕ) → no-carets xs ≡ true → (i : ℕ) → i < length xs → getD xs i 0 ≡ caret → ⊥
 unfolding no-carets
 no-caret-at [] e i h k = omega arith
-no-caret-at (x ∷ xs) e zero h k = eqb-false x caret (not-true (eqb x caret) (and-left (not (eqb x caret)) _ e)) k
-no-caret-at (x ∷ xs) e (suc i) h k = no-caret-at xs (and-right (not (eqb x caret)) _ e) i (omega arith) k
+no-caret-at (x ∷ xs) e zero h k = eqb-false x caret (not-true (eqb x caret) (and-parts (not (eqb x caret)) _ e .0)) k
+no-caret-at (x ∷ xs) e (suc i) h k = no-caret-at xs (and-parts (not (eqb x caret)) _ e .1) i (omega arith) k
 
 letters-plain : List Line → Bool
 letters-plain [] = true
@@ -205,14 +205,14 @@ row-letters : (rows : List Line) → letters-plain rows ≡ true → (s : List �
 unfolding letters-plain
 row-letters [] a s k f n e i h d = let z : _≡_ {A = ℕ} 0 1 = cc in omega arith
 row-letters (line [] j g ∷ rows) a s k f n e i h d = let z : _≡_ {A = ℕ} 0 1 = cc in omega arith
-row-letters (line (l ∷ ls) j g ∷ rows) a s k f n e i h d = go (begins (l ∷ ls) s) refl e (row-letters rows (and-right (no-carets ls) _ a) s k f n)
+row-letters (line (l ∷ ls) j g ∷ rows) a s k f n e i h d = go (begins (l ∷ ls) s) refl e (row-letters rows (and-parts (no-carets ls) _ a .1) s k f n)
   where
     go : (t : Bool) → begins (l ∷ ls) s ≡ t → when t (Known j g (suc (length ls))) (rowAt rows s) ≡ Known k f n → (rowAt rows s ≡ Known k f n → (i : ℕ) → suc i < n → getD s (suc i) 0 ≡ caret → ⊥) → ⊥
     go true t e′ rest =
         let y : suc (length ls) ≡ n = cc in
         let o : suc i < suc (length ls) = omega arith in
         let same = begins-same (l ∷ ls) s t (suc i) o in
-        no-caret-at ls (and-left (no-carets ls) _ a) i (omega arith) (sym same ∙ d)
+        no-caret-at ls (and-parts (no-carets ls) _ a .0) i (omega arith) (sym same ∙ d)
     go false t e′ rest = rest e′ i h d
 
 -- in a command no caret stands but at its front

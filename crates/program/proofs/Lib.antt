@@ -1,7 +1,6 @@
 pub mod Places
 pub mod Texts
 pub mod Numbers
-pub mod Widths
 pub mod Rows
 pub mod Parameters
 pub mod Laws

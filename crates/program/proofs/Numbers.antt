@@ -4,15 +4,13 @@ use mathlib.Core.Path.{_≡_, refl, sym, ap, _∙_}
 use mathlib.Core.Bool.{Bool, true, false}
 use mathlib.Core.List.{List, [], _∷_}
 use native.Mathlib.Omega.{arith}
-use borrow.Author.Tests.{leb-true, le-leb}
-use lib.Dec.{leb}
 use lib.ListN.{length, getD, drop}
-use Rattle.basis.specs.Choice.{when, _and_}
+use Rattle.basis.specs.Choice.{when, _and_, within}
 use Rattle.program.specs.Bytes.{caret, paramOf}
-use Rattle.program.specs.Number.{digits, valueOf, within, numberOf}
+use Rattle.program.specs.Number.{digits, valueOf, numberOf}
 use Rattle.program.specs.declared.Parameter.{Parameter}
 use Rattle.program.specs.declared.Parameter.the-variants.{Right, Wrong}
-use Rattle.basis.proofs.Bools.{and-left, and-right, and-both}
+use Rattle.basis.proofs.Choices.{and-true, and-parts, within-parts, within-true}
 use Rattle.program.proofs.Places.{param-next, param-end}
 
 else-taken : (t : Bool) (r w : Parameter) → (t ≡ true → ⊥) → w ≡ when t r w
@@ -24,22 +22,17 @@ pub number-wrong : (lo hi most place at : ℕ) (ds : List ℕ) → (digits ds �
 number-wrong lo hi most place at ds h =
     else-taken _ _ _
     (λ (e : digits ds and (within 1 (length ds) most and within lo (valueOf 0 ds) hi) ≡ true).
-    let c = and-left (digits ds) _ e in
-    let r = and-right (digits ds) _ e in
-    let n = and-left (within 1 (length ds) most) _ r in
-    let v = and-right (within 1 (length ds) most) _ r in
-    h c
-    (leb-true 1 (length ds) (and-left (leb 1 (length ds)) _ n))
-    (leb-true (length ds) most (and-right (leb 1 (length ds)) _ n))
-    (leb-true lo (valueOf 0 ds) (and-left (leb lo (valueOf 0 ds)) _ v))
-    (leb-true (valueOf 0 ds) hi (and-right (leb lo (valueOf 0 ds)) _ v)))
+    let c = and-parts (digits ds) _ e in
+    let r = and-parts (within 1 (length ds) most) _ (c .1) in
+    let n = within-parts 1 (length ds) most (r .0) in
+    let v = within-parts lo (valueOf 0 ds) hi (r .1) in
+    h (c .0) (n .0) (n .1) (v .0) (v .1))
 
 pub number-right : (lo hi most place at : ℕ) (ds : List ℕ) → digits ds ≡ true → 1 ≤ length ds → length ds ≤ most → lo ≤ valueOf 0 ds → valueOf 0 ds ≤ hi → numberOf lo hi most place at ds ≡ Right (valueOf 0 ds) (at + length ds)
 number-right lo hi most place at ds d one few low high =
     ap (λ (t : Bool). when t (Right (valueOf 0 ds) (at + length ds)) (Wrong 23 place))
-    (and-both _ _ d
-    (and-both _ _ (and-both _ _ (le-leb 1 (length ds) one) (le-leb (length ds) most few))
-    (and-both _ _ (le-leb lo (valueOf 0 ds) low) (le-leb (valueOf 0 ds) hi high))))
+    (and-true _ _ d
+    (and-true _ _ (within-true 1 (length ds) most one few) (within-true lo (valueOf 0 ds) hi low high)))
 
 -- more digits never make a value less
 pub value-grows : (ds : List ℕ) (v : ℕ) → v ≤ valueOf v ds
@@ -87,9 +80,8 @@ module _ (b : List ℕ) (from at v x : ℕ) (p : Passed b from at v) (ex : x ≡
     -- one byte more
     pub next-good : digits (paramOf (drop from b)) ≡ true → (0x30 ≤ x) × (x ≤ 0x39)
     next-good d =
-        let e : (leb 0x30 x and leb x 0x39) and digits (paramOf (drop (at + 1) b)) ≡ true = sym (ap digits step) ∙ sym (p .good) ∙ d in
-        let f = and-left (leb 0x30 x and leb x 0x39) _ e in
-        (leb-true 0x30 x (and-left (leb 0x30 x) _ f), leb-true x 0x39 (and-right (leb 0x30 x) _ f))
+        let e : within 0x30 x 0x39 and digits (paramOf (drop (at + 1) b)) ≡ true = sym (ap digits step) ∙ sym (p .good) ∙ d in
+        within-parts 0x30 x 0x39 (and-parts (within 0x30 x 0x39) _ e .0)
 
     pub next-count : from + length (paramOf (drop from b)) ≡ at + 1 + length (paramOf (drop (at + 1) b))
     next-count = let e = ap length step in let k = p .count in omega arith
@@ -102,7 +94,7 @@ module _ (b : List ℕ) (from at v x : ℕ) (p : Passed b from at v) (ex : x ≡
         record {
           good =
               p .good ∙ ap digits step
-              ∙ ap (λ (t : Bool). t and digits (paramOf (drop (at + 1) b))) (and-both _ _ (le-leb 0x30 x low) (le-leb x 0x39 high));
+              ∙ ap (λ (t : Bool). t and digits (paramOf (drop (at + 1) b))) (within-true 0x30 x 0x39 low high);
           value = next-value;
           count = next-count;
         }

@@ -6,10 +6,10 @@ use mathlib.Core.List.{List, [], _∷_}
 use native.Mathlib.Omega.{arith}
 use lib.Dec.{eqb}
 use lib.ListN.{length, getD, drop}
-use Rattle.basis.specs.Choice.{when, _and_}
+use Rattle.basis.specs.Choice.{when, _and_, within}
 use Rattle.program.specs.Bytes.{caret, paramOf, firstOf}
 use Rattle.program.specs.Text.{wrongOf, textOf}
-use Rattle.program.specs.Number.{digits, valueOf, within, numberOf}
+use Rattle.program.specs.Number.{digits, valueOf, numberOf}
 use Rattle.program.specs.Command.{bareOf, parameterOf, nextOf, commandOf}
 use Rattle.program.specs.declared.Kind.{Kind}
 use Rattle.program.specs.declared.Reading.{Reading}

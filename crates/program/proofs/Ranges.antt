@@ -7,10 +7,10 @@ use native.Mathlib.Omega.{arith}
 use borrow.Author.Tests.{eqb-true, leb-true}
 use lib.Dec.{eqb, leb}
 use lib.ListN.{length, drop}
-use Rattle.basis.specs.Choice.{when, _and_}
+use Rattle.basis.specs.Choice.{when, _and_, within}
 use Rattle.program.specs.Bytes.{caret, paramOf, firstOf}
 use Rattle.program.specs.Text.{wrongOf, textOf}
-use Rattle.program.specs.Number.{digits, valueOf, within, numberOf}
+use Rattle.program.specs.Number.{digits, valueOf, numberOf}
 use Rattle.program.specs.Table.{table, rowAt}
 use Rattle.program.specs.Answers.{lettersOf}
 use Rattle.program.specs.Command.{parameterOf, commandOf, rowOf, readOf}
@@ -24,7 +24,7 @@ use Rattle.program.specs.declared.Parameter.the-variants.{Right, Wrong}
 use Rattle.program.specs.declared.Command.{Command}
 use Rattle.program.specs.declared.Reading.{Reading}
 use Rattle.program.specs.declared.Reading.the-variants.{Good, Refused}
-use Rattle.basis.proofs.Bools.{and-left, and-right}
+use Rattle.basis.proofs.Choices.{and-parts, within-parts}
 use Rattle.program.proofs.Rows.{row-holds}
 use Rattle.program.proofs.Laws.{TextAt, Made, made, ends-within}
 
@@ -69,10 +69,10 @@ same-is Bare (Number a b c) e = let z : _≡_ {A = ℕ} 0 1 = cc in absurd (omeg
 same-is (Number x y z) Text e = let w : _≡_ {A = ℕ} 0 1 = cc in absurd (omega arith)
 same-is (Number x y z) Bare e = let w : _≡_ {A = ℕ} 0 1 = cc in absurd (omega arith)
 same-is (Number x y z) (Number a b c) e =
-    let p = eqb-true x a (and-left (eqb x a) _ e) in
-    let r = and-right (eqb x a) _ e in
-    let q = eqb-true y b (and-left (eqb y b) _ r) in
-    let s = eqb-true z c (and-right (eqb y b) _ r) in
+    let p = eqb-true x a (and-parts (eqb x a) _ e .0) in
+    let r = and-parts (eqb x a) _ e .1 in
+    let q = eqb-true y b (and-parts (eqb y b) _ r .0) in
+    let s = eqb-true z c (and-parts (eqb y b) _ r .1) in
     ap (λ (k : ℕ). Number k y z) p ∙ ap (λ (k : ℕ). Number a k z) q ∙ ap (λ (k : ℕ). Number a b k) s
 
 forms : Kind → Form → ℕ → Bool
@@ -111,9 +111,8 @@ ranged (Number lo hi most) place at ds = go (digits ds and (within 1 (length ds)
   where
     go : (t : Bool) → digits ds and (within 1 (length ds) most and within lo (valueOf 0 ds) hi) ≡ t → Ranged (Number lo hi most) (when t (Right (valueOf 0 ds) (at + length ds)) (Wrong 23 place))
     go true e =
-        let r = and-right (digits ds) _ e in
-        let v = and-right (within 1 (length ds) most) _ r in
-        (leb-true lo (valueOf 0 ds) (and-left (leb lo (valueOf 0 ds)) _ v), leb-true (valueOf 0 ds) hi (and-right (leb lo (valueOf 0 ds)) _ v))
+        let r = and-parts (digits ds) _ e .1 in
+        within-parts lo (valueOf 0 ds) hi (and-parts (within 1 (length ds) most) _ r .1)
     go false e = tt
 
 -- a good command's number lies in its kind's range
@@ -150,15 +149,15 @@ digits-shown lo hi most place at n next ds h = go (digits ds and (within 1 (leng
   where
     go : (t : Bool) → digits ds and (within 1 (length ds) most and within lo (valueOf 0 ds) hi) ≡ t → when t (Right (valueOf 0 ds) (at + length ds)) (Wrong 23 place) ≡ Right n next → Digits lo hi most n ds
     go true e k =
-        let r = and-right (digits ds) _ e in
-        let l = and-left (within 1 (length ds) most) _ r in
-        let v = and-right (within 1 (length ds) most) _ r in
+        let c = and-parts (digits ds) _ e in
+        let r = and-parts (within 1 (length ds) most) _ (c .1) in
+        let l = within-parts 1 (length ds) most (r .0) in
         let x : valueOf 0 ds ≡ n = cc in
-        let y = leb-true (valueOf 0 ds) hi (and-right (leb lo (valueOf 0 ds)) _ v) in
+        let y = within-parts lo (valueOf 0 ds) hi (r .1) .1 in
         record {
-          good = and-left (digits ds) _ e;
-          least = leb-true 1 (length ds) (and-left (leb 1 (length ds)) _ l);
-          most′ = leb-true (length ds) most (and-right (leb 1 (length ds)) _ l);
+          good = c .0;
+          least = l .0;
+          most′ = l .1;
           value = sym x;
           high = omega arith;
         }
@@ -168,8 +167,8 @@ two-digits : (n : ℕ) (ds : List ℕ) → Digits 1 99 2 n ds → n + 81 ≤ 90 
 two-digits n [] d = let l = d .least in absurd (omega arith)
 two-digits n (x ∷ []) d =
     let v = d .value in
-    let g : (leb 0x30 x and leb x 0x39) and true ≡ true = d .good in
-    let h = leb-true x 0x39 (and-right (leb 0x30 x) _ (and-left (leb 0x30 x and leb x 0x39) _ g)) in
+    let g : within 0x30 x 0x39 and true ≡ true = d .good in
+    let h = within-parts 0x30 x 0x39 (and-parts (within 0x30 x 0x39) _ g .0) .1 in
     omega arith
 two-digits n (x ∷ y ∷ []) d = let h = d .high in omega arith
 two-digits n (x ∷ y ∷ z ∷ ds) d = let l = d .most′ in absurd (omega arith)

@@ -17,7 +17,7 @@ use Rattle.program.specs.declared.Form.{Form}
 use Rattle.program.specs.declared.Row.{Row}
 use Rattle.program.specs.declared.Row.the-variants.{Known, Unknown}
 use Rattle.basis.proofs.Lists.{drop-next, getD-other}
-use Rattle.basis.proofs.Bools.{and-left, and-right}
+use Rattle.basis.proofs.Choices.{and-parts}
 
 -- a test that every line of the table passes
 abbrev pub holds : (Kind → Form → ℕ → Bool) → List Line → Bool
@@ -27,11 +27,11 @@ holds t (line ls k f ∷ rows) = t k f (length ls) and holds t rows
 found-holds : (t : Kind → Form → ℕ → Bool) (rows : List Line) → holds t rows ≡ true → (s : List ℕ) (k : Kind) (f : Form) (n : ℕ) → rowAt rows s ≡ Known k f n → t k f n ≡ true
 found-holds t [] a s k f n e = let z : _≡_ {A = ℕ} 0 1 = cc in absurd (omega arith)
 found-holds t (line ls j g ∷ rows) a s k f n e =
-    go (begins ls s) e (found-holds t rows (and-right (t j g (length ls)) _ a) s k f n)
+    go (begins ls s) e (found-holds t rows (and-parts (t j g (length ls)) _ a .1) s k f n)
   where
     go : (b : Bool) → when b (Known j g (length ls)) (rowAt rows s) ≡ Known k f n → (rowAt rows s ≡ Known k f n → t k f n ≡ true) → t k f n ≡ true
     go true e′ h =
-        let p = and-left (t j g (length ls)) _ a in
+        let p = and-parts (t j g (length ls)) _ a .0 in
         let x : j ≡ k = cc in
         let y : g ≡ f = cc in
         let z : length ls ≡ n = cc in
@@ -55,8 +55,8 @@ unfolding plain
 row-plain s k f n h =
     let e = found-holds plain table refl s k f n h in
     record {
-      least = leb-true 2 n (and-left (leb 2 n) _ e);
-      most = leb-true n 3 (and-right (leb 2 n) _ e);
+      least = leb-true 2 n (and-parts (leb 2 n) _ e .0);
+      most = leb-true n 3 (and-parts (leb 2 n) _ e .1);
     }
 
 three : (s : List ℕ) → 0 < length s → rowAt table s ≡ rowAt table (getD s 0 caret ∷ getD s 1 caret ∷ getD s 2 caret ∷ [])

@@ -3,5 +3,4 @@ pub mod Text
 pub mod Number
 pub mod Table
 pub mod Command
-pub mod Width
 pub mod Answers

@@ -4,25 +4,20 @@
 use Prim.Native.Nat.{ℕ, _+_, _*_, _-_}
 use mathlib.Core.List.{List, [], _∷_}
 use mathlib.Core.Bool.{Bool, true, false}
-use lib.Dec.{leb}
 use lib.ListN.{length}
-use Rattle.basis.specs.Choice.{when, _and_}
+use Rattle.basis.specs.Choice.{when, _and_, within}
 use Rattle.program.specs.declared.Parameter.{Parameter}
 use Rattle.program.specs.declared.Parameter.the-variants.{Right, Wrong}
 
 -- whether each byte is a digit, 30h to 39h
 abbrev pub digits : List ℕ → Bool
 digits [] = true
-digits (x ∷ xs) = (leb 0x30 x and leb x 0x39) and digits xs
+digits (x ∷ xs) = within 0x30 x 0x39 and digits xs
 
 -- the value of digits in decimal, behind those that made v
 abbrev pub valueOf : ℕ → List ℕ → ℕ
 valueOf v [] = v
 valueOf v (x ∷ xs) = valueOf (v * 10 + (x - 0x30)) xs
-
--- least to greatest
-abbrev pub within : ℕ → ℕ → ℕ → Bool
-within lo n hi = leb lo n and leb n hi
 
 -- the number that stands from `at` on, of 1 to `most` digits and a value from lo to hi; or 23 at the command's place
 abbrev pub numberOf : (lo hi most place at : ℕ) → List ℕ → Parameter

@@ -1,23 +1,19 @@
-// The command language (01, "The program"): one command read at a place of a body, and a text measured. The crate `judge`
-// judges a whole body by it. No call has a `requires`; each answers for any bytes and any place.
+// The command language (01, "The program"): one command read at a place of a body. The crate `measure` measures a text, and
+// `judge` judges a whole body. No call has a `requires`; each answers for any bytes and any place.
 //   bytes      the byte at a place, and what kind a text's byte is      "It holds 20h to 7Dh; a tilde followed by one of .."
 //   text       a text's bytes up to its end                             "Text runs to the next caret or the end"
 //   number     one reader for every number                              "A number runs to the next caret or the end, .."
 //   table      the letters of each command and its form                 the table of commands
 //   reader     one command at a place, or its refusal 22 to 25          the table, and "Numbers for no"
-//   measure    width, fits, start column                                "Width: each text starts in `D`. .."
 // The definitions that the contracts cite stand in specs/ under the same names.
 mod bytes;
-mod measure;
 mod number;
 mod reader;
 mod table;
 mod text;
 
 pub use bytes::CARET;
-pub use measure::fits;
-pub use measure::start_column;
-pub use measure::width;
+pub use bytes::TILDE;
 pub use reader::read_command;
 
 // What a byte is within a text.

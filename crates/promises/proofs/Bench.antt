@@ -5,18 +5,18 @@ use mathlib.Core.Path.{_≡_, refl, sym, ap, _∙_}
 use native.Mathlib.Omega.{arith}
 use Rattle.basis.specs.Bytes.{sum}
 use Rattle.packet.specs.Wire.{packetOf, replyOf}
-use Rattle.packet.specs.Read.{readOf}
+use Rattle.reader.specs.Read.{readOf}
 use Rattle.program.specs.Command.{readOf as commandAt}
 use Rattle.perform.specs.Price.{answerOf}
 use Rattle.perform.specs.Settings.{soundOf}
 use Rattle.judge.specs.Verdict.{judgeOf}
 use Rattle.judge.specs.declared.Verdict.the-variants.{Finite}
 use Rattle.course.proofs.Programs.{treeIn}
-use Rattle.machine.specs.Forecast.{settingsAt, forecastOf}
+use Rattle.reckon.specs.Forecast.{settingsAt, forecastOf}
 use Rattle.machine.specs.Step.{readyOf}
-use Rattle.machine.specs.Totals.{pricesOf}
-use Rattle.machine.specs.declared.reckon.Foretold.the-variants.{Ends}
-use Rattle.machine.proofs.Forecasts.{in-range, settings-sound, tallies-price}
+use Rattle.reckon.specs.Totals.{pricesOf}
+use Rattle.reckon.specs.declared.reckon.Foretold.the-variants.{Ends}
+use Rattle.reckon.proofs.Forecasts.{in-range, settings-sound, tallies-price}
 use Rattle.sign.specs.Reset.{freshOf}
 use Rattle.promises.specs.Bench.{All, starred, costs, w5, l3w2e, shi, s, slow}
 

@@ -11,21 +11,21 @@ use Rattle.program.specs.Command.{readOf as commandAt}
 use Rattle.perform.specs.Price.{answerOf}
 use Rattle.perform.specs.Settings.{soundOf}
 use Rattle.perform.specs.declared.settings.Settings.{Settings}
-use Rattle.perform.specs.declared.price.Performed.{Performed}
 use Rattle.judge.specs.Verdict.{judgeOf}
 use Rattle.judge.specs.declared.Verdict.the-variants.{Finite}
-use Rattle.machine.specs.Forecast.{settingsAt, forecastOf}
-use Rattle.machine.specs.Step.{readyOf, stepOf, afterRun, saidRun, startedOf}
-use Rattle.machine.specs.Totals.{totalsOf}
+use Rattle.reckon.specs.Forecast.{settingsAt, forecastOf}
+use Rattle.machine.specs.Line.{lineOf}
+use Rattle.machine.specs.Step.{stepOf, afterRun, saidRun, startedOf}
+use Rattle.reckon.specs.Totals.{totalsOf}
 use Rattle.machine.specs.declared.Answer.{Answer}
-use Rattle.machine.specs.declared.Answer.the-variants.{Did, Idle}
 use Rattle.machine.specs.declared.Run.{Run}
-use Rattle.machine.specs.declared.reckon.Foretold.{Foretold}
-use Rattle.machine.specs.declared.reckon.Foretold.the-variants.{Ends, Endless as Never, Refused as RefusedForecast}
-use Rattle.machine.proofs.Demand.{forecast-holds, forecast-never}
-use Rattle.machine.proofs.Lines.{dids, line-ends, line-never}
+use Rattle.reckon.specs.declared.reckon.Foretold.{Foretold}
+use Rattle.reckon.specs.declared.reckon.Foretold.the-variants.{Ends, Endless as Never, Refused as RefusedForecast}
+use Rattle.reckon.proofs.Demand.{forecast-holds, forecast-never}
+use Rattle.machine.proofs.Follows.{ready-none}
+use Rattle.machine.proofs.Lines.{line-ends, line-never}
 use Rattle.promises.specs.Bench.{w5}
-use Rattle.promises.specs.Line.{Machine, after, said, lineOf, performed, Runs, Goes, LineRuns, ours, atOnce, madeUp, inventing, counting}
+use Rattle.promises.specs.Line.{Machine, after, said, Runs, Goes, LineRuns, ours, atOnce, madeUp, inventing, counting}
 
 after-is : (k : ℕ) (r : Run) → after ours k r ≡ afterRun k r
 after-is zero r = refl
@@ -34,14 +34,6 @@ after-is (suc k) r = after-is k (stepOf r .run)
 said-is : (k : ℕ) (r : Run) → said ours k r ≡ saidRun k r
 said-is zero r = refl
 said-is (suc k) r = ap (λ (xs : List Answer). stepOf r .answer ∷ xs) (said-is k (stepOf r .run))
-
-dids-are : (xs : List Performed) → dids xs ≡ performed xs
-dids-are [] = refl
-dids-are (x ∷ xs) = ap (λ (ys : List Answer). Did x ∷ ys) (dids-are xs)
-
-ready-none : (σ : Settings) → readyOf σ .len ≡ 0
-unfolding readyOf
-ready-none σ = refl
 
 busy-is : (k : ℕ) (r : Run) → (afterRun k r .len ≡ 0 → ⊥) → ours .ready (after ours k r) ≡ false
 busy-is k r h = ap (λ (x : Run). eqb (x .len) 0) (after-is k r) ∙ ne-eqb (afterRun k r .len) 0 h
@@ -56,7 +48,7 @@ ours-runs =
             busy-before = λ k less. busy-is k (startedOf b σ) (l .busy-before k less);
             ready-then =
                 ap (λ (x : Run). eqb (x .len) 0) (after-is (length (lineOf b σ)) (startedOf b σ) ∙ l .ready-then) ∙ eq-eqb _ 0 (ready-none _);
-            answers = said-is (length (lineOf b σ)) (startedOf b σ) ∙ l .performed ∙ dids-are (lineOf b σ);
+            answers = said-is (length (lineOf b σ)) (startedOf b σ) ∙ l .performed;
             most = l .most;
           };
       endless = λ b σ set e.

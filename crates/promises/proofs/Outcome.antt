@@ -6,9 +6,9 @@ use contract.Lifetimes
 use denote.Triple.Clauses
 use borrow.Fn.World
 use borrow.Fn.Kinds as K
-use Rattle.packet.proofs.read_packet as packet-read-packet
-use Rattle.packet.proofs.read_packet.Kinds as packet-read-packet-kinds
-use Rattle.packet.proofs.read_packet.Reads as packet-read-packet-reads
+use Rattle.reader.proofs.read_packet as reader-read-packet
+use Rattle.reader.proofs.read_packet.Kinds as reader-read-packet-kinds
+use Rattle.reader.proofs.read_packet.Reads as reader-read-packet-reads
 use Rattle.packet.proofs.write_query as packet-write-query
 use Rattle.packet.proofs.write_query.Kinds as packet-write-query-kinds
 use Rattle.packet.proofs.write_query.Reads as packet-write-query-reads
@@ -30,21 +30,36 @@ use Rattle.packet.proofs.write_reply.Reads as packet-write-reply-reads
 use Rattle.packet.proofs.is_last as packet-is-last
 use Rattle.packet.proofs.is_last.Kinds as packet-is-last-kinds
 use Rattle.packet.proofs.is_last.Reads as packet-is-last-reads
+use Rattle.packet.proofs.sum_of as packet-sum-of
+use Rattle.packet.proofs.sum_of.Kinds as packet-sum-of-kinds
+use Rattle.packet.proofs.sum_of.Reads as packet-sum-of-reads
 use Rattle.packet.proofs.checksum as packet-checksum
 use Rattle.packet.proofs.checksum.Kinds as packet-checksum-kinds
 use Rattle.packet.proofs.checksum.Reads as packet-checksum-reads
+use Rattle.input.proofs.digit as input-digit
+use Rattle.input.proofs.digit.Kinds as input-digit-kinds
+use Rattle.input.proofs.digit.Reads as input-digit-reads
+use Rattle.input.proofs.pair as input-pair
+use Rattle.input.proofs.pair.Kinds as input-pair-kinds
+use Rattle.input.proofs.pair.Reads as input-pair-reads
+use Rattle.input.proofs.line_end as input-line-end
+use Rattle.input.proofs.line_end.Kinds as input-line-end-kinds
+use Rattle.input.proofs.line_end.Reads as input-line-end-reads
 use Rattle.program.proofs.read_command as program-read-command
 use Rattle.program.proofs.read_command.Kinds as program-read-command-kinds
 use Rattle.program.proofs.read_command.Reads as program-read-command-reads
-use Rattle.program.proofs.width as program-width
-use Rattle.program.proofs.width.Kinds as program-width-kinds
-use Rattle.program.proofs.width.Reads as program-width-reads
-use Rattle.program.proofs.fits as program-fits
-use Rattle.program.proofs.fits.Kinds as program-fits-kinds
-use Rattle.program.proofs.fits.Reads as program-fits-reads
-use Rattle.program.proofs.start_column as program-start-column
-use Rattle.program.proofs.start_column.Kinds as program-start-column-kinds
-use Rattle.program.proofs.start_column.Reads as program-start-column-reads
+use Rattle.measure.proofs.width as measure-width
+use Rattle.measure.proofs.width.Kinds as measure-width-kinds
+use Rattle.measure.proofs.width.Reads as measure-width-reads
+use Rattle.measure.proofs.text_width as measure-text-width
+use Rattle.measure.proofs.text_width.Kinds as measure-text-width-kinds
+use Rattle.measure.proofs.text_width.Reads as measure-text-width-reads
+use Rattle.measure.proofs.fits as measure-fits
+use Rattle.measure.proofs.fits.Kinds as measure-fits-kinds
+use Rattle.measure.proofs.fits.Reads as measure-fits-reads
+use Rattle.measure.proofs.start_column as measure-start-column
+use Rattle.measure.proofs.start_column.Kinds as measure-start-column-kinds
+use Rattle.measure.proofs.start_column.Reads as measure-start-column-reads
 use Rattle.judge.proofs.judge as judge-judge
 use Rattle.judge.proofs.judge.Kinds as judge-judge-kinds
 use Rattle.judge.proofs.judge.Reads as judge-judge-reads
@@ -69,24 +84,24 @@ use Rattle.machine.proofs.Run.step.Reads as machine-Run-step-reads
 use Rattle.machine.proofs.Run.sound as machine-Run-sound
 use Rattle.machine.proofs.Run.sound.Kinds as machine-Run-sound-kinds
 use Rattle.machine.proofs.Run.sound.Reads as machine-Run-sound-reads
-use Rattle.machine.proofs.forecast as machine-forecast
-use Rattle.machine.proofs.forecast.Kinds as machine-forecast-kinds
-use Rattle.machine.proofs.forecast.Reads as machine-forecast-reads
+use Rattle.reckon.proofs.forecast as reckon-forecast
+use Rattle.reckon.proofs.forecast.Kinds as reckon-forecast-kinds
+use Rattle.reckon.proofs.forecast.Reads as reckon-forecast-reads
 use Rattle.machine.proofs.zeros as machine-zeros
 use Rattle.machine.proofs.zeros.Kinds as machine-zeros-kinds
 use Rattle.machine.proofs.zeros.Reads as machine-zeros-reads
-use Rattle.machine.proofs.totals.Totals.none as machine-totals-Totals-none
-use Rattle.machine.proofs.totals.Totals.none.Kinds as machine-totals-Totals-none-kinds
-use Rattle.machine.proofs.totals.Totals.none.Reads as machine-totals-Totals-none-reads
-use Rattle.machine.proofs.totals.Totals.cost as machine-totals-Totals-cost
-use Rattle.machine.proofs.totals.Totals.cost.Kinds as machine-totals-Totals-cost-kinds
-use Rattle.machine.proofs.totals.Totals.cost.Reads as machine-totals-Totals-cost-reads
-use Rattle.machine.proofs.totals.Totals.plus as machine-totals-Totals-plus
-use Rattle.machine.proofs.totals.Totals.plus.Kinds as machine-totals-Totals-plus-kinds
-use Rattle.machine.proofs.totals.Totals.plus.Reads as machine-totals-Totals-plus-reads
-use Rattle.machine.proofs.totals.Totals.times as machine-totals-Totals-times
-use Rattle.machine.proofs.totals.Totals.times.Kinds as machine-totals-Totals-times-kinds
-use Rattle.machine.proofs.totals.Totals.times.Reads as machine-totals-Totals-times-reads
+use Rattle.reckon.proofs.totals.Totals.none as reckon-totals-Totals-none
+use Rattle.reckon.proofs.totals.Totals.none.Kinds as reckon-totals-Totals-none-kinds
+use Rattle.reckon.proofs.totals.Totals.none.Reads as reckon-totals-Totals-none-reads
+use Rattle.reckon.proofs.totals.Totals.cost as reckon-totals-Totals-cost
+use Rattle.reckon.proofs.totals.Totals.cost.Kinds as reckon-totals-Totals-cost-kinds
+use Rattle.reckon.proofs.totals.Totals.cost.Reads as reckon-totals-Totals-cost-reads
+use Rattle.reckon.proofs.totals.Totals.plus as reckon-totals-Totals-plus
+use Rattle.reckon.proofs.totals.Totals.plus.Kinds as reckon-totals-Totals-plus-kinds
+use Rattle.reckon.proofs.totals.Totals.plus.Reads as reckon-totals-Totals-plus-reads
+use Rattle.reckon.proofs.totals.Totals.times as reckon-totals-Totals-times
+use Rattle.reckon.proofs.totals.Totals.times.Kinds as reckon-totals-Totals-times-kinds
+use Rattle.reckon.proofs.totals.Totals.times.Reads as reckon-totals-Totals-times-reads
 use Rattle.units.proofs.Steps.add as units-Steps-add
 use Rattle.units.proofs.Steps.add.Kinds as units-Steps-add-kinds
 use Rattle.units.proofs.Steps.add.Reads as units-Steps-add-reads
@@ -161,9 +176,9 @@ use Rattle.sign.proofs.repeat.Reads as sign-repeat-reads
 one : {A : Type 0} {x y z : A} → x ≡ z → y ≡ z → x ≡ y
 one h k = h ∙ sym k
 
-pub one-packet-read-packet : (κs : Lifetimes.Lfts 1) (a : World.ArgsD packet-read-packet.signature κs) (r r′ : World.ResD packet-read-packet.signature κs)
-    (s s′ : Clauses.AtExit (K.endedOf 1 packet-read-packet-kinds.ps packet-read-packet-kinds.r) κs) → packet-read-packet-reads.Post κs a r s → packet-read-packet-reads.Post κs a r′ s′ → r ≡ r′
-one-packet-read-packet κs a r r′ s s′ h h′ = one h h′
+pub one-reader-read-packet : (κs : Lifetimes.Lfts 1) (a : World.ArgsD reader-read-packet.signature κs) (r r′ : World.ResD reader-read-packet.signature κs)
+    (s s′ : Clauses.AtExit (K.endedOf 1 reader-read-packet-kinds.ps reader-read-packet-kinds.r) κs) → reader-read-packet-reads.Post κs a r s → reader-read-packet-reads.Post κs a r′ s′ → r ≡ r′
+one-reader-read-packet κs a r r′ s s′ h h′ = one h h′
 
 pub one-packet-write-query : (κs : Lifetimes.Lfts 1) (a : World.ArgsD packet-write-query.signature κs) (r r′ : World.ResD packet-write-query.signature κs)
     (s s′ : Clauses.AtExit (K.endedOf 1 packet-write-query-kinds.ps packet-write-query-kinds.r) κs) → packet-write-query-reads.Post κs a r s → packet-write-query-reads.Post κs a r′ s′
@@ -198,25 +213,45 @@ pub one-packet-is-last : (κs : Lifetimes.Lfts 0) (a : World.ArgsD packet-is-las
     (s s′ : Clauses.AtExit (K.endedOf 0 packet-is-last-kinds.ps packet-is-last-kinds.r) κs) → packet-is-last-reads.Post κs a r s → packet-is-last-reads.Post κs a r′ s′ → r ≡ r′
 one-packet-is-last κs a r r′ s s′ h h′ = one h h′
 
+pub one-packet-sum-of : (κs : Lifetimes.Lfts 1) (a : World.ArgsD packet-sum-of.signature κs) (r r′ : World.ResD packet-sum-of.signature κs)
+    (s s′ : Clauses.AtExit (K.endedOf 1 packet-sum-of-kinds.ps packet-sum-of-kinds.r) κs) → packet-sum-of-reads.Post κs a r s → packet-sum-of-reads.Post κs a r′ s′ → r ≡ r′
+one-packet-sum-of κs a r r′ s s′ h h′ = one h h′
+
 pub one-packet-checksum : (κs : Lifetimes.Lfts 1) (a : World.ArgsD packet-checksum.signature κs) (r r′ : World.ResD packet-checksum.signature κs)
     (s s′ : Clauses.AtExit (K.endedOf 1 packet-checksum-kinds.ps packet-checksum-kinds.r) κs) → packet-checksum-reads.Post κs a r s → packet-checksum-reads.Post κs a r′ s′ → r ≡ r′
 one-packet-checksum κs a r r′ s s′ h h′ = one h h′
+
+pub one-input-digit : (κs : Lifetimes.Lfts 0) (a : World.ArgsD input-digit.signature κs) (r r′ : World.ResD input-digit.signature κs)
+    (s s′ : Clauses.AtExit (K.endedOf 0 input-digit-kinds.ps input-digit-kinds.r) κs) → input-digit-reads.Post κs a r s → input-digit-reads.Post κs a r′ s′ → r ≡ r′
+one-input-digit κs a r r′ s s′ h h′ = one h h′
+
+pub one-input-pair : (κs : Lifetimes.Lfts 0) (a : World.ArgsD input-pair.signature κs) (r r′ : World.ResD input-pair.signature κs)
+    (s s′ : Clauses.AtExit (K.endedOf 0 input-pair-kinds.ps input-pair-kinds.r) κs) → input-pair-reads.Post κs a r s → input-pair-reads.Post κs a r′ s′ → r ≡ r′
+one-input-pair κs a r r′ s s′ h h′ = one h h′
+
+pub one-input-line-end : (κs : Lifetimes.Lfts 1) (a : World.ArgsD input-line-end.signature κs) (r r′ : World.ResD input-line-end.signature κs)
+    (s s′ : Clauses.AtExit (K.endedOf 1 input-line-end-kinds.ps input-line-end-kinds.r) κs) → input-line-end-reads.Post κs a r s → input-line-end-reads.Post κs a r′ s′ → r ≡ r′
+one-input-line-end κs a r r′ s s′ h h′ = one (h .0) (h′ .0)
 
 pub one-program-read-command : (κs : Lifetimes.Lfts 1) (a : World.ArgsD program-read-command.signature κs) (r r′ : World.ResD program-read-command.signature κs)
     (s s′ : Clauses.AtExit (K.endedOf 1 program-read-command-kinds.ps program-read-command-kinds.r) κs) → program-read-command-reads.Post κs a r s → program-read-command-reads.Post κs a r′ s′ → r ≡ r′
 one-program-read-command κs a r r′ s s′ h h′ = one h h′
 
-pub one-program-width : (κs : Lifetimes.Lfts 1) (a : World.ArgsD program-width.signature κs) (r r′ : World.ResD program-width.signature κs)
-    (s s′ : Clauses.AtExit (K.endedOf 1 program-width-kinds.ps program-width-kinds.r) κs) → program-width-reads.Post κs a r s → program-width-reads.Post κs a r′ s′ → r ≡ r′
-one-program-width κs a r r′ s s′ h h′ = one h h′
+pub one-measure-width : (κs : Lifetimes.Lfts 1) (a : World.ArgsD measure-width.signature κs) (r r′ : World.ResD measure-width.signature κs)
+    (s s′ : Clauses.AtExit (K.endedOf 1 measure-width-kinds.ps measure-width-kinds.r) κs) → measure-width-reads.Post κs a r s → measure-width-reads.Post κs a r′ s′ → r ≡ r′
+one-measure-width κs a r r′ s s′ h h′ = one h h′
 
-pub one-program-fits : (κs : Lifetimes.Lfts 0) (a : World.ArgsD program-fits.signature κs) (r r′ : World.ResD program-fits.signature κs)
-    (s s′ : Clauses.AtExit (K.endedOf 0 program-fits-kinds.ps program-fits-kinds.r) κs) → program-fits-reads.Post κs a r s → program-fits-reads.Post κs a r′ s′ → r ≡ r′
-one-program-fits κs a r r′ s s′ h h′ = one h h′
+pub one-measure-text-width : (κs : Lifetimes.Lfts 1) (a : World.ArgsD measure-text-width.signature κs) (r r′ : World.ResD measure-text-width.signature κs)
+    (s s′ : Clauses.AtExit (K.endedOf 1 measure-text-width-kinds.ps measure-text-width-kinds.r) κs) → measure-text-width-reads.Post κs a r s → measure-text-width-reads.Post κs a r′ s′ → r ≡ r′
+one-measure-text-width κs a r r′ s s′ h h′ = one h h′
 
-pub one-program-start-column : (κs : Lifetimes.Lfts 0) (a : World.ArgsD program-start-column.signature κs) (r r′ : World.ResD program-start-column.signature κs)
-    (s s′ : Clauses.AtExit (K.endedOf 0 program-start-column-kinds.ps program-start-column-kinds.r) κs) → program-start-column-reads.Post κs a r s → program-start-column-reads.Post κs a r′ s′ → r ≡ r′
-one-program-start-column κs a r r′ s s′ h h′ = one h h′
+pub one-measure-fits : (κs : Lifetimes.Lfts 0) (a : World.ArgsD measure-fits.signature κs) (r r′ : World.ResD measure-fits.signature κs)
+    (s s′ : Clauses.AtExit (K.endedOf 0 measure-fits-kinds.ps measure-fits-kinds.r) κs) → measure-fits-reads.Post κs a r s → measure-fits-reads.Post κs a r′ s′ → r ≡ r′
+one-measure-fits κs a r r′ s s′ h h′ = one h h′
+
+pub one-measure-start-column : (κs : Lifetimes.Lfts 0) (a : World.ArgsD measure-start-column.signature κs) (r r′ : World.ResD measure-start-column.signature κs)
+    (s s′ : Clauses.AtExit (K.endedOf 0 measure-start-column-kinds.ps measure-start-column-kinds.r) κs) → measure-start-column-reads.Post κs a r s → measure-start-column-reads.Post κs a r′ s′ → r ≡ r′
+one-measure-start-column κs a r r′ s s′ h h′ = one h h′
 
 pub one-judge-judge : (κs : Lifetimes.Lfts 1) (a : World.ArgsD judge-judge.signature κs) (r r′ : World.ResD judge-judge.signature κs)
     (s s′ : Clauses.AtExit (K.endedOf 1 judge-judge-kinds.ps judge-judge-kinds.r) κs) → judge-judge-reads.Post κs a r s → judge-judge-reads.Post κs a r′ s′ → r ≡ r′
@@ -250,29 +285,29 @@ pub one-machine-Run-sound : (κs : Lifetimes.Lfts 0) (a : World.ArgsD machine-Ru
     (s s′ : Clauses.AtExit (K.endedOf 0 machine-Run-sound-kinds.ps machine-Run-sound-kinds.r) κs) → machine-Run-sound-reads.Post κs a r s → machine-Run-sound-reads.Post κs a r′ s′ → r ≡ r′
 one-machine-Run-sound κs a r r′ s s′ h h′ = one h h′
 
-pub one-machine-forecast : (κs : Lifetimes.Lfts 1) (a : World.ArgsD machine-forecast.signature κs) (r r′ : World.ResD machine-forecast.signature κs)
-    (s s′ : Clauses.AtExit (K.endedOf 1 machine-forecast-kinds.ps machine-forecast-kinds.r) κs) → machine-forecast-reads.Post κs a r s → machine-forecast-reads.Post κs a r′ s′ → r ≡ r′
-one-machine-forecast κs a r r′ s s′ h h′ = one h h′
+pub one-reckon-forecast : (κs : Lifetimes.Lfts 1) (a : World.ArgsD reckon-forecast.signature κs) (r r′ : World.ResD reckon-forecast.signature κs)
+    (s s′ : Clauses.AtExit (K.endedOf 1 reckon-forecast-kinds.ps reckon-forecast-kinds.r) κs) → reckon-forecast-reads.Post κs a r s → reckon-forecast-reads.Post κs a r′ s′ → r ≡ r′
+one-reckon-forecast κs a r r′ s s′ h h′ = one h h′
 
 pub one-machine-zeros : (κs : Lifetimes.Lfts 1) (a : World.ArgsD machine-zeros.signature κs) (r r′ : World.ResD machine-zeros.signature κs)
     (s s′ : Clauses.AtExit (K.endedOf 1 machine-zeros-kinds.ps machine-zeros-kinds.r) κs) → machine-zeros-reads.Post κs a r s → machine-zeros-reads.Post κs a r′ s′ → r ≡ r′
 one-machine-zeros κs a r r′ s s′ h h′ = one h h′
 
-pub one-machine-totals-Totals-none : (κs : Lifetimes.Lfts 0) (a : World.ArgsD machine-totals-Totals-none.signature κs) (r r′ : World.ResD machine-totals-Totals-none.signature κs)
-    (s s′ : Clauses.AtExit (K.endedOf 0 machine-totals-Totals-none-kinds.ps machine-totals-Totals-none-kinds.r) κs) → machine-totals-Totals-none-reads.Post κs a r s → machine-totals-Totals-none-reads.Post κs a r′ s′ → r ≡ r′
-one-machine-totals-Totals-none κs a r r′ s s′ h h′ = one h h′
+pub one-reckon-totals-Totals-none : (κs : Lifetimes.Lfts 0) (a : World.ArgsD reckon-totals-Totals-none.signature κs) (r r′ : World.ResD reckon-totals-Totals-none.signature κs)
+    (s s′ : Clauses.AtExit (K.endedOf 0 reckon-totals-Totals-none-kinds.ps reckon-totals-Totals-none-kinds.r) κs) → reckon-totals-Totals-none-reads.Post κs a r s → reckon-totals-Totals-none-reads.Post κs a r′ s′ → r ≡ r′
+one-reckon-totals-Totals-none κs a r r′ s s′ h h′ = one h h′
 
-pub one-machine-totals-Totals-cost : (κs : Lifetimes.Lfts 0) (a : World.ArgsD machine-totals-Totals-cost.signature κs) (r r′ : World.ResD machine-totals-Totals-cost.signature κs)
-    (s s′ : Clauses.AtExit (K.endedOf 0 machine-totals-Totals-cost-kinds.ps machine-totals-Totals-cost-kinds.r) κs) → machine-totals-Totals-cost-reads.Post κs a r s → machine-totals-Totals-cost-reads.Post κs a r′ s′ → r ≡ r′
-one-machine-totals-Totals-cost κs a r r′ s s′ h h′ = one h h′
+pub one-reckon-totals-Totals-cost : (κs : Lifetimes.Lfts 0) (a : World.ArgsD reckon-totals-Totals-cost.signature κs) (r r′ : World.ResD reckon-totals-Totals-cost.signature κs)
+    (s s′ : Clauses.AtExit (K.endedOf 0 reckon-totals-Totals-cost-kinds.ps reckon-totals-Totals-cost-kinds.r) κs) → reckon-totals-Totals-cost-reads.Post κs a r s → reckon-totals-Totals-cost-reads.Post κs a r′ s′ → r ≡ r′
+one-reckon-totals-Totals-cost κs a r r′ s s′ h h′ = one h h′
 
-pub one-machine-totals-Totals-plus : (κs : Lifetimes.Lfts 0) (a : World.ArgsD machine-totals-Totals-plus.signature κs) (r r′ : World.ResD machine-totals-Totals-plus.signature κs)
-    (s s′ : Clauses.AtExit (K.endedOf 0 machine-totals-Totals-plus-kinds.ps machine-totals-Totals-plus-kinds.r) κs) → machine-totals-Totals-plus-reads.Post κs a r s → machine-totals-Totals-plus-reads.Post κs a r′ s′ → r ≡ r′
-one-machine-totals-Totals-plus κs a r r′ s s′ h h′ = one h h′
+pub one-reckon-totals-Totals-plus : (κs : Lifetimes.Lfts 0) (a : World.ArgsD reckon-totals-Totals-plus.signature κs) (r r′ : World.ResD reckon-totals-Totals-plus.signature κs)
+    (s s′ : Clauses.AtExit (K.endedOf 0 reckon-totals-Totals-plus-kinds.ps reckon-totals-Totals-plus-kinds.r) κs) → reckon-totals-Totals-plus-reads.Post κs a r s → reckon-totals-Totals-plus-reads.Post κs a r′ s′ → r ≡ r′
+one-reckon-totals-Totals-plus κs a r r′ s s′ h h′ = one h h′
 
-pub one-machine-totals-Totals-times : (κs : Lifetimes.Lfts 0) (a : World.ArgsD machine-totals-Totals-times.signature κs) (r r′ : World.ResD machine-totals-Totals-times.signature κs)
-    (s s′ : Clauses.AtExit (K.endedOf 0 machine-totals-Totals-times-kinds.ps machine-totals-Totals-times-kinds.r) κs) → machine-totals-Totals-times-reads.Post κs a r s → machine-totals-Totals-times-reads.Post κs a r′ s′ → r ≡ r′
-one-machine-totals-Totals-times κs a r r′ s s′ h h′ = one h h′
+pub one-reckon-totals-Totals-times : (κs : Lifetimes.Lfts 0) (a : World.ArgsD reckon-totals-Totals-times.signature κs) (r r′ : World.ResD reckon-totals-Totals-times.signature κs)
+    (s s′ : Clauses.AtExit (K.endedOf 0 reckon-totals-Totals-times-kinds.ps reckon-totals-Totals-times-kinds.r) κs) → reckon-totals-Totals-times-reads.Post κs a r s → reckon-totals-Totals-times-reads.Post κs a r′ s′ → r ≡ r′
+one-reckon-totals-Totals-times κs a r r′ s s′ h h′ = one h h′
 
 pub one-units-Steps-add : (κs : Lifetimes.Lfts 0) (a : World.ArgsD units-Steps-add.signature κs) (r r′ : World.ResD units-Steps-add.signature κs)
     (s s′ : Clauses.AtExit (K.endedOf 0 units-Steps-add-kinds.ps units-Steps-add-kinds.r) κs) → units-Steps-add-reads.Post κs a r s → units-Steps-add-reads.Post κs a r′ s′ → r .0 ≡ r′ .0

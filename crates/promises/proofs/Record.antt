@@ -7,8 +7,8 @@ use lib.ListN.{length, getD, take, drop}
 use lib.Seq.{getD-take}
 use Rattle.packet.specs.Wire.{fifthOf, totalOf, partOf, packetAt, transmissionOf}
 use Rattle.packet.proofs.Stands.{at-length, packet-stands, count-stands}
-use Rattle.packet.specs.Read.{readOf}
-use Rattle.packet.specs.declared.read.Reading.the-variants.{Reset as ResetRead, Refused as Unread}
+use Rattle.reader.specs.Read.{readOf}
+use Rattle.reader.specs.declared.read.Reading.the-variants.{Reset as ResetRead, Refused as Unread}
 use Rattle.collect.specs.Slots.{begunOf, noneOf}
 use Rattle.machine.specs.Step.{readyOf, startedOf}
 use Rattle.sign.specs.Delivery.{Awaits, Delivered, afterPackets, answerTo}

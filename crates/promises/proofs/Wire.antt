@@ -11,17 +11,17 @@ use Rattle.basis.specs.Bytes.{laid}
 use Rattle.basis.proofs.Laid.{take-laid, drop-laid}
 use Rattle.basis.proofs.Tests.{tests}
 use Rattle.packet.specs.Wire.{fifthOf, packetOf, totalOf, partOf, packetAt, replyOf}
-use Rattle.packet.specs.Read.{readOf}
+use Rattle.reader.specs.Read.{readOf}
 use Rattle.packet.specs.Reply.{isLast, heardOf, replyRows}
 use Rattle.packet.specs.Write.{packetRows, answerOf, bufferOf}
-use Rattle.packet.specs.declared.read.Reading.the-variants.{Normal, Refused}
+use Rattle.reader.specs.declared.read.Reading.the-variants.{Normal, Refused}
 use Rattle.packet.specs.declared.write.Written.the-variants.{Wrote}
-use Rattle.packet.proofs.ReadBack.{body-reads, part-stands}
+use Rattle.reader.proofs.ReadBack.{body-reads}
 use Rattle.packet.proofs.Parts.{part-length}
-use Rattle.packet.proofs.Stands.{at-length}
-use Rattle.packet.proofs.Unique.{same-fields}
-use Rattle.packet.proofs.Refusals.{refused-lowest}
-use Rattle.packet.proofs.Replies.{reply-reads, same-reply, no-packet}
+use Rattle.packet.proofs.Stands.{at-length, part-stands}
+use Rattle.reader.proofs.Unique.{same-fields}
+use Rattle.reader.proofs.Refusals.{refused-lowest, no-packet}
+use Rattle.packet.proofs.Replies.{reply-reads, same-reply}
 use Rattle.promises.specs.Bench.{hi}
 use Rattle.promises.specs.Wire.{ReadsBack, HearsBack, WireHolds, ours, refusing, idle}
 

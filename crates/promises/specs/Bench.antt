@@ -4,16 +4,16 @@ use mathlib.Core.Bool.{Bool, true, false}
 use mathlib.Core.List.{List, [], _∷_}
 use mathlib.Core.Path.{_≡_}
 use Rattle.packet.specs.Wire.{packetOf, queryOf, resetOf}
-use Rattle.packet.specs.Read.{readOf}
-use Rattle.packet.specs.declared.read.Reading.{Reading}
-use Rattle.packet.specs.declared.read.Reading.the-variants.{Query, Reset, Normal, Refused}
+use Rattle.reader.specs.Read.{readOf}
+use Rattle.reader.specs.declared.read.Reading.{Reading}
+use Rattle.reader.specs.declared.read.Reading.the-variants.{Query, Reset, Normal, Refused}
 use Rattle.judge.specs.Verdict.{judgeOf}
 use Rattle.judge.specs.declared.Verdict.{Verdict}
 use Rattle.judge.specs.declared.Verdict.the-variants.{Refused as RefusedBody}
-use Rattle.machine.specs.Forecast.{forecastOf}
-use Rattle.machine.specs.Totals.{totalsOf}
-use Rattle.machine.specs.declared.reckon.Foretold.{Foretold}
-use Rattle.machine.specs.declared.reckon.Foretold.the-variants.{Ends}
+use Rattle.reckon.specs.Forecast.{forecastOf}
+use Rattle.reckon.specs.Totals.{totalsOf}
+use Rattle.reckon.specs.declared.reckon.Foretold.{Foretold}
+use Rattle.reckon.specs.declared.reckon.Foretold.the-variants.{Ends}
 use Rattle.sign.specs.Reset.{powerOn}
 use Rattle.sign.specs.Tell.{saysOf}
 

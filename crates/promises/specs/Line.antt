@@ -16,17 +16,18 @@ use Rattle.judge.specs.Verdict.{judgeOf}
 use Rattle.judge.specs.declared.Verdict.the-variants.{Finite, Endless}
 use Rattle.judge.specs.Token.{act, rep, close}
 use Rattle.course.specs.Steps.{saysOf, setsOf}
-use Rattle.course.specs.Tree.{Block, stop, one, loop, unrolled}
+use Rattle.course.specs.Tree.{Block, stop, one, loop}
 use Rattle.course.specs.Price.{sumBy, scans, millis, leavesOf}
 use Rattle.course.proofs.Programs.{treeIn}
-use Rattle.machine.specs.Forecast.{forecastOf}
+use Rattle.reckon.specs.Forecast.{forecastOf}
+use Rattle.machine.specs.Line.{lineOf, performed}
 use Rattle.machine.specs.Step.{stepOf, startedOf}
-use Rattle.machine.specs.Totals.{totalsOf}
+use Rattle.reckon.specs.Totals.{totalsOf}
 use Rattle.machine.specs.declared.Answer.{Answer}
-use Rattle.machine.specs.declared.Answer.the-variants.{Did, Idle}
+use Rattle.machine.specs.declared.Answer.the-variants.{Idle}
 use Rattle.machine.specs.declared.Run.{Run}
-use Rattle.machine.specs.declared.reckon.Foretold.{Foretold}
-use Rattle.machine.specs.declared.reckon.Foretold.the-variants.{Ends, Endless as Never, Refused as RefusedForecast}
+use Rattle.reckon.specs.declared.reckon.Foretold.{Foretold}
+use Rattle.reckon.specs.declared.reckon.Foretold.the-variants.{Ends, Endless as Never, Refused as RefusedForecast}
 
 -- what a machine is: its runs, and what it does with them
 pub record Machine (R : Type 0) : Type 0 where
@@ -43,14 +44,6 @@ after m (suc k) r = after m k (m .step r)
 abbrev pub said : {R : Type 0} → Machine R → ℕ → R → List Answer
 said m zero r = []
 said m (suc k) r = m .says r ∷ said m k (m .step r)
-
--- what a body performs, one command after the other, from given settings: its unrolling
-abbrev pub lineOf : List ℕ → Settings → List Performed
-lineOf b σ = unrolled (treeIn b .block) σ
-
-abbrev pub performed : List Performed → List Answer
-performed [] = []
-performed (x ∷ xs) = Did x ∷ performed xs
 
 -- a program that ends
 pub record Runs {R : Type 0} (m : Machine R) (b : List ℕ) (σ : Settings) : Type 0 where
@@ -70,16 +63,20 @@ pub record LineRuns {R : Type 0} (m : Machine R) : Type 0 where
   pub finite : (b : List ℕ) (σ : Settings) → soundOf σ ≡ true → judgeOf b ≡ Finite → Runs m b σ
   pub endless : (b : List ℕ) (σ : Settings) → soundOf σ ≡ true → judgeOf b ≡ Endless → Goes m b σ
 
--- ours
-abbrev pub ours : Machine Run
-ours =
+-- our steps beside any forecast
+abbrev pub foretelling : (List ℕ → ℕ → ℕ → Foretold) → Machine Run
+foretelling f =
     record {
       start = startedOf;
       step = λ r. stepOf r .run;
       says = λ r. stepOf r .answer;
       ready = λ r. eqb (r .len) 0;
-      forecast = forecastOf;
+      forecast = f;
     }
+
+-- ours
+abbrev pub ours : Machine Run
+ours = foretelling forecastOf
 
 -- one that is Ready at once, beside a forecast of nothing
 abbrev pub atOnce : Machine ℕ
@@ -93,14 +90,7 @@ madeUp Never = Never
 madeUp (RefusedForecast n p) = RefusedForecast n p
 
 abbrev pub inventing : Machine Run
-inventing =
-    record {
-      start = startedOf;
-      step = λ r. stepOf r .run;
-      says = λ r. stepOf r .answer;
-      ready = λ r. eqb (r .len) 0;
-      forecast = λ b pace each. madeUp (forecastOf b pace each);
-    }
+inventing = foretelling (λ b pace each. madeUp (forecastOf b pace each))
 
 -- one that performs its first pass and then only counts: it holds what is left to say and how many steps are left
 pub record Counting : Type 0 where

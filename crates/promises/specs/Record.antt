@@ -8,8 +8,8 @@ use mathlib.Core.List.{List}
 use mathlib.Core.Path.{_≡_}
 use lib.ListN.{length, getD, take, drop, replicate}
 use Rattle.packet.specs.Wire.{totalOf, transmissionOf}
-use Rattle.packet.specs.Read.{readOf}
-use Rattle.packet.specs.declared.read.Reading.the-variants.{Reset as ResetRead}
+use Rattle.reader.specs.Read.{readOf}
+use Rattle.reader.specs.declared.read.Reading.the-variants.{Reset as ResetRead}
 use Rattle.judge.specs.Verdict.{judgeOf}
 use Rattle.judge.specs.Grammar.{acceptedAs}
 use Rattle.judge.specs.declared.Verdict.the-variants.{Refused as NoProgram}

@@ -7,17 +7,17 @@ use mathlib.Core.Path.{_≡_}
 use lib.ListN.{length, take, drop}
 use Rattle.basis.specs.Bytes.{Bytes}
 use Rattle.packet.specs.Wire.{totalOf, partOf, packetAt, replyOf}
-use Rattle.packet.specs.Read.{rowsOf, readOf}
+use Rattle.reader.specs.Read.{rowsOf, readOf}
 use Rattle.packet.specs.Reply.{isLast, heardOf, replyRows}
 use Rattle.packet.specs.Write.{Writes, packetRows, answerOf, bufferOf}
 use Rattle.basis.specs.Rows.{firstOf}
-use Rattle.packet.specs.declared.read.Reading.{Reading}
-use Rattle.packet.specs.declared.read.Reading.the-variants.{Normal, Refused}
+use Rattle.reader.specs.declared.read.Reading.{Reading}
+use Rattle.reader.specs.declared.read.Reading.the-variants.{Normal, Refused}
 use Rattle.packet.specs.declared.reply.Status.{Status}
 use Rattle.packet.specs.declared.reply.Status.the-variants.{Heard}
 use Rattle.packet.specs.declared.write.Written.{Written}
 use Rattle.packet.specs.declared.write.Written.the-variants.{Wrote}
-use Rattle.packet.proofs.Refusals.{Lowest}
+use Rattle.reader.proofs.Refusals.{Lowest}
 
 -- what a writer leaves: its answer, and the buffer
 pub record Left : Type 0 where

@@ -13,10 +13,11 @@ use Rattle.basis.specs.Choice.{when, _or_}
 use Rattle.basis.proofs.Choices.{when-true, when-false}
 use Rattle.basis.proofs.Laid.{take-laid, length-laid, laid-over}
 use Rattle.packet.specs.Wire.{totalOf, partOf, packetOf, fifthOf, packetAt}
-use Rattle.packet.specs.Read.{readOf}
-use Rattle.packet.specs.declared.read.Reading.the-variants.{Normal}
+use Rattle.reader.specs.Read.{readOf}
+use Rattle.reader.specs.declared.read.Reading.the-variants.{Normal}
 use Rattle.packet.proofs.Parts.{part-length}
-use Rattle.packet.proofs.ReadBack.{part-stands, body-reads}
+use Rattle.packet.proofs.Stands.{part-stands}
+use Rattle.reader.proofs.ReadBack.{body-reads}
 use Rattle.judge.specs.Grammar.{acceptedAs}
 use Rattle.judge.specs.Verdict.{judgeOf}
 use Rattle.judge.specs.declared.Verdict.{Verdict}

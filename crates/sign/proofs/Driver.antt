@@ -12,9 +12,9 @@ use Rattle.basis.specs.Choice.{when, _or_}
 use Rattle.basis.proofs.Choices.{when-true, when-false}
 use Rattle.collect.specs.Slots.{heldOf, begunOf, sameOf, storedOf}
 use Rattle.collect.specs.declared.Collection.{Collection}
-use Rattle.packet.specs.Read.{readOf}
-use Rattle.packet.specs.declared.read.Reading.{Reading}
-use Rattle.packet.specs.declared.read.Reading.the-variants.{Query as QueryRead, Reset as ResetRead, Normal, Refused as Unread}
+use Rattle.reader.specs.Read.{readOf}
+use Rattle.reader.specs.declared.read.Reading.{Reading}
+use Rattle.reader.specs.declared.read.Reading.the-variants.{Query as QueryRead, Reset as ResetRead, Normal, Refused as Unread}
 use Rattle.judge.specs.Token.{get}
 use Rattle.course.specs.Steps.{Said, did, idle, at, saidOf}
 use Rattle.machine.specs.Step.{framesOf, sayOf, stepOf as runStep}

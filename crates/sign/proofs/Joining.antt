@@ -11,8 +11,8 @@ use Rattle.basis.specs.Choice.{when}
 use Rattle.basis.proofs.Choices.{when-true, when-false}
 use Rattle.collect.specs.Slots.{sameOf}
 use Rattle.collect.proofs.Sounds.{sound-slots, slots-most}
-use Rattle.packet.specs.Read.{readOf}
-use Rattle.packet.specs.declared.read.Reading.{Reading}
+use Rattle.reader.specs.Read.{readOf}
+use Rattle.reader.specs.declared.read.Reading.{Reading}
 use Rattle.sign.specs.Sound.{soundOf}
 use Rattle.sign.specs.Join.{staysOf, placedOf, slotOf, goesOn, Right, Open}
 use Rattle.sign.specs.Receive.{heardOf, receiveOf}

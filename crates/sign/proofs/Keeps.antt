@@ -6,18 +6,18 @@ use mathlib.Core.Path.{_≡_, refl, sym, ap, _∙_, subst}
 use mathlib.Core.Logic.{dite}
 use native.Mathlib.Decide.{decLe}
 use native.Mathlib.Omega.{arith}
-use lib.Dec.{eqb, ltb, leb}
+use lib.Dec.{eqb, leb}
 use lib.ListN.{length, getD, set, take, drop, length-set, length-append, length-drop}
 use lib.Seq.{length-take-le}
 use borrow.Author.Tests.{le-leb, leb-false, leb-true, eqb-true, eqb-false, not-true, not-false, eq-eqb, ne-eqb, ltb-false, le-ltb}
 use Rattle.basis.specs.Bytes.{laid}
-use Rattle.basis.specs.Choice.{when, _and_, _or_}
+use Rattle.basis.specs.Choice.{when, _and_, _or_, within}
 use Rattle.basis.proofs.Choices.{and-parts, and-true, when-true, when-false}
 use Rattle.basis.proofs.Laid.{length-laid}
-use Rattle.packet.specs.Read.{readOf}
+use Rattle.reader.specs.Read.{readOf}
 use Rattle.packet.specs.Reply.{isLast}
-use Rattle.packet.specs.declared.read.Reading.{Reading}
-use Rattle.packet.specs.declared.read.Reading.the-variants.{Query, Reset, Normal, Refused}
+use Rattle.reader.specs.declared.read.Reading.{Reading}
+use Rattle.reader.specs.declared.read.Reading.the-variants.{Query, Reset, Normal, Refused}
 use Rattle.perform.specs.Settings.{soundOf as settingsSound}
 use Rattle.perform.specs.declared.settings.Settings.{Settings}
 use Rattle.judge.specs.Verdict.{judgeOf}
@@ -82,10 +82,8 @@ power-good = fresh-good 16 0 refl
 start-sound : (σ : Settings) → settingsSound σ ≡ true → settingsSound (startSettings (σ .dim) (σ .bright)) ≡ true
 unfolding settingsSound
 start-sound σ e =
-    let a = and-parts (not (ltb (σ .pace) 1)) _ e in
-    let b = and-parts (not (ltb 20 (σ .pace))) _ (a .1) in
-    let c = and-parts (not (ltb (σ .scans) 1)) _ (b .1) in
-    and-parts (not (ltb 6 (σ .scans))) _ (c .1) .1
+    let a = and-parts (within 1 (σ .pace) 20) _ e in
+    and-parts (within 1 (σ .scans) 6) _ (a .1) .1
 
 pub reset-good : (s : Sign) → Good s → Good (resetOf s)
 reset-good s g =

@@ -10,10 +10,10 @@ use lib.Seq.{length-take-le}
 use borrow.Author.Tests.{ltb-false, leb-false, eqb-false, lt-ltb, leb-true}
 use Rattle.basis.specs.Choice.{when, _and_, _or_}
 use Rattle.basis.specs.Rows.{Passed}
-use Rattle.packet.specs.Read.{wrongPlace, fieldRows, readOf}
-use Rattle.packet.specs.declared.read.Reading.{Reading}
-use Rattle.packet.specs.declared.read.Reading.the-variants.{Query, Reset, Normal, Refused}
-use Rattle.packet.proofs.Unique.{passed, framed, Framed}
+use Rattle.reader.specs.Read.{wrongPlace, fieldRows, readOf}
+use Rattle.reader.specs.declared.read.Reading.{Reading}
+use Rattle.reader.specs.declared.read.Reading.the-variants.{Query, Reset, Normal, Refused}
+use Rattle.reader.proofs.Unique.{passed, framed, Framed}
 use Rattle.sign.specs.Join.{Right}
 
 -- none of the tests of a disjunction holds

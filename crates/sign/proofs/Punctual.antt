@@ -11,10 +11,10 @@ use Rattle.judge.specs.declared.Verdict.the-variants.{Finite}
 use Rattle.machine.specs.Step.{readyOf, startedOf, afterRun, saidRun}
 use Rattle.machine.specs.declared.Answer.{Answer}
 use Rattle.machine.specs.declared.Run.{Run}
-use Rattle.machine.proofs.Demand.{forecast-holds}
+use Rattle.reckon.proofs.Demand.{forecast-holds}
 use Rattle.machine.proofs.Lines.{BusyRun, line-ends}
 use Rattle.sign.specs.Driver.{Event, afterEvents, saidEvents, afterSteps, saidSteps, stepsIn, Undisturbed}
-use Rattle.sign.specs.Punctual.{lineOf, OnTime}
+use Rattle.sign.specs.Punctual.{OnTime}
 use Rattle.sign.specs.Step.{stepOf}
 use Rattle.sign.specs.declared.Sign.{Sign}
 use Rattle.sign.specs.declared.Stepped.{Stepped}

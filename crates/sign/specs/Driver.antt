@@ -4,8 +4,8 @@ use Prim.Native.Nat.{ℕ, zero, suc, _+_}
 use mathlib.Core.List.{List, [], _∷_}
 use mathlib.Core.Path.{_≡_}
 use mathlib.Core.Bool.{Bool, true, false}
-use Rattle.packet.specs.Read.{readOf}
-use Rattle.packet.specs.declared.read.Reading.the-variants.{Reset as ResetRead}
+use Rattle.reader.specs.Read.{readOf}
+use Rattle.reader.specs.declared.read.Reading.the-variants.{Reset as ResetRead}
 use Rattle.machine.specs.declared.Answer.{Answer}
 use Rattle.sign.specs.Receive.{receiveOf}
 use Rattle.sign.specs.Step.{stepOf}

@@ -5,24 +5,17 @@ use mathlib.Core.List.{List}
 use mathlib.Core.Path.{_≡_}
 use lib.ListN.{length}
 use Rattle.perform.specs.declared.settings.Settings.{Settings}
-use Rattle.perform.specs.declared.price.Performed.{Performed}
 use Rattle.course.specs.Price.{sumBy, scans, millis}
-use Rattle.course.specs.Tree.{unrolled}
-use Rattle.course.proofs.Programs.{treeIn}
-use Rattle.machine.specs.Forecast.{forecastOf}
-use Rattle.machine.specs.Totals.{totalsOf}
-use Rattle.machine.specs.declared.reckon.Foretold.the-variants.{Ends}
-use Rattle.machine.proofs.Lines.{dids}
+use Rattle.reckon.specs.Forecast.{forecastOf}
+use Rattle.reckon.specs.Totals.{totalsOf}
+use Rattle.reckon.specs.declared.reckon.Foretold.the-variants.{Ends}
+use Rattle.machine.specs.Line.{lineOf, performed}
 use Rattle.sign.specs.Driver.{Event, afterEvents, saidEvents, stepsIn}
 use Rattle.sign.specs.declared.Sign.{Sign}
-
--- what a body performs from given settings, one command after the other
-abbrev pub lineOf : List ℕ → Settings → List Performed
-lineOf b σ = unrolled (treeIn b .block) σ
 
 -- the steps among the events are those of the forecast: Busy before the last, Ready behind it, and the line's own answers
 pub record OnTime (mid : ℕ) (es : List Event) (s : Sign) (b : List ℕ) (σ : Settings) : Type 0 where
   pub foretold : forecastOf b (σ .pace) (σ .scans) ≡ Ends (totalsOf (length (lineOf b σ)) (sumBy scans (lineOf b σ)) (sumBy millis (lineOf b σ)))
   pub busy : stepsIn es < length (lineOf b σ) → afterEvents mid es s .run .len ≡ 0 → ⊥
   pub ready : stepsIn es ≡ length (lineOf b σ) → afterEvents mid es s .run .len ≡ 0
-  pub said : stepsIn es ≡ length (lineOf b σ) → saidEvents mid es s ≡ dids (lineOf b σ)
+  pub said : stepsIn es ≡ length (lineOf b σ) → saidEvents mid es s ≡ performed (lineOf b σ)

@@ -4,9 +4,9 @@ use mathlib.Core.List.{List}
 use lib.ListN.{take, drop}
 use Rattle.basis.specs.Choice.{when}
 use Rattle.judge.specs.Verdict.{noOf, noAt}
-use Rattle.packet.specs.Read.{readOf}
-use Rattle.packet.specs.declared.read.Reading.{Reading}
-use Rattle.packet.specs.declared.read.Reading.the-variants.{Query as QueryRead, Reset as ResetRead, Normal, Refused as Unread}
+use Rattle.reader.specs.Read.{readOf}
+use Rattle.reader.specs.declared.read.Reading.{Reading}
+use Rattle.reader.specs.declared.read.Reading.the-variants.{Query as QueryRead, Reset as ResetRead, Normal, Refused as Unread}
 use Rattle.sign.specs.Sound.{soundOf}
 use Rattle.sign.specs.Reset.{resetOf}
 use Rattle.sign.specs.Join.{staysOf, joinOf}

@@ -4,8 +4,8 @@ use crate::Outcome;
 use crate::Received;
 use crate::Sign;
 use crate::reset::fresh;
-use packet::Reading;
-use packet::read_packet;
+use reader::Reading;
+use reader::read_packet;
 ghost use mathlib.Core.Path.{_≡_};
 ghost use Rattle.sign.specs.Receive.{receiveOf};
 

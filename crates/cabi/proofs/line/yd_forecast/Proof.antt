@@ -1,8 +1,8 @@
 -- `yd_forecast` lays the words of each answer; a refusal lays none.
 use mathlib.Core.Path.{sym, _∙_}
 use Rattle.cabi.proofs.Lays.{answers, laid-none}
-use Rattle.machine.specs.Forecast.{forecastOf}
-use Rattle.machine.specs.declared.reckon.Foretold.the-variants.{Ends, Endless, Refused}
+use Rattle.reckon.specs.Forecast.{forecastOf}
+use Rattle.reckon.specs.declared.reckon.Foretold.the-variants.{Ends, Endless, Refused}
 use Rattle.cabi.specs.Calls.{foretoldResult, foretoldWords}
 use Rattle.basis.proofs.Tests.{tests}
 use borrow.Author.Needs.{needs}

@@ -1,9 +1,9 @@
 -- `yd_read_packet` lays the words of each reading; a refusal lays none.
 use mathlib.Core.Path.{sym, _∙_}
 use Rattle.cabi.proofs.Lays.{answers, laid-none}
-use Rattle.packet.specs.Read.{readOf, toldOf}
-use Rattle.packet.specs.declared.read.Reading.{Reading}
-use Rattle.packet.specs.declared.read.Reading.the-variants.{Query, Reset, Normal, Refused}
+use Rattle.reader.specs.Read.{readOf, toldOf}
+use Rattle.reader.specs.declared.read.Reading.{Reading}
+use Rattle.reader.specs.declared.read.Reading.the-variants.{Query, Reset, Normal, Refused}
 use Rattle.cabi.specs.Calls.{readWords}
 use Rattle.basis.proofs.Tests.{tests}
 use borrow.Author.Needs.{needs}

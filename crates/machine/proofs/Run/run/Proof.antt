@@ -3,7 +3,7 @@ use mathlib.Core.Path.{_≡_, sym, ap, _∙_}
 use native.Mathlib.Omega.{arith}
 use lib.ListN.{length, length-take}
 use lib.Seq.{length-take-le}
-use Rattle.program.proofs.Ranges.{text-within}
+use Rattle.measure.proofs.Widths.{part-whole}
 use Rattle.machine.specs.Sound.{bodyOf}
 use Rattle.machine.proofs.Commands.{number-byte}
 use Rattle.machine.proofs.Moves.{ran-good}
@@ -43,12 +43,7 @@ cast-number c =
     omega (arith, number-byte (bodyOf a) (a .place) d e)
 
 text-width-requires : tie.Need-text-width-requires
-text-width-requires c κs =
-    let a = c .before .before .before .before .before .before .before .before .args .self in
-    let d = c .before .before .read .given .0 .0 in
-    let e = sym (c .before .before .before .before .read-command .ensures) ∙ c .before .before .read .given .1 in
-    let fits = sound-parts a (c .before .before .before .before .before .before .before .before .pre .0) .fits in
-    (text-within (bodyOf a) (a .place) d e, omega (arith, length-take (a .len) (a .body)))
+text-width-requires c κs = search needs
 
 perform-requires : tie.Need-perform-requires
 perform-requires c κs = search needs
@@ -67,7 +62,9 @@ returns-2 c =
     let a = c .before .before .before .before .before .before .before .before .before .before .before .args .self in
     let d = c .before .before .before .before .before .read .given .0 .0 in
     let e = sym (c .before .before .before .before .before .before .before .read-command .ensures) ∙ c .before .before .before .before .before .read .given .1 in
-    ran-good a d (c .before .before .text-width .result) (c .moved .result) (c .before .perform .result) e (c .before .before .text-width .ensures) (c .before .perform .ensures) (c .moved .ensures)
+    let fits = sound-parts a (c .before .before .before .before .before .before .before .before .before .before .before .pre .0) .fits in
+    let wide = c .before .before .text-width .ensures ∙ part-whole (bodyOf a) (d .text) (d .len) (omega (arith, length-take (a .len) (a .body))) in
+    ran-good a d (c .before .before .text-width .result) (c .moved .result) (c .before .perform .result) e wide (c .before .perform .ensures) (c .moved .ensures)
 
 pub run-spec : {M : Type 1} → statement M
 run-spec =

@@ -1,5 +1,5 @@
 use mathlib.Core.Path.{sym, _∙_}
-use Rattle.packet.proofs.Frame.{reply-right}
+use Rattle.packet.proofs.Replies.{reply-right}
 use Rattle.packet.specs.Reply.{heardOf}
 use Rattle.basis.proofs.Tests.{tests}
 use borrow.Author.Needs.{needs}

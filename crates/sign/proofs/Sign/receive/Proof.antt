@@ -5,7 +5,7 @@ use Rattle.sign.specs.declared.Outcome.the-variants.{Reset as WasReset}
 use Rattle.sign.specs.declared.Sign.{Sign}
 use Rattle.sign.specs.Reset.{resetOf}
 use Rattle.sign.specs.Join.{Right, staysOf, joinOf}
-use Rattle.packet.specs.declared.read.Reading.the-variants.{Query, Reset, Normal, Refused}
+use Rattle.reader.specs.declared.read.Reading.the-variants.{Query, Reset, Normal, Refused}
 use lib.Seq.{length-take-le}
 use lib.ListN.{length, take, drop, length-drop}
 use mathlib.Core.List.{List}

@@ -1,0 +1,132 @@
+// A text measured. Answers to 01: "Width: each text starts in `D`. Columns per character: .. A text fits if its width is at
+// most 96 .. A shown text starts at column (96 - width)/2, rounded down."
+use program::TILDE;
+ghost use mathlib.Core.Path.{_≡_};
+ghost use Prim.Native.Nat.{_+_, _≤_, min};
+ghost use lib.ListN.{take, drop};
+ghost use Rattle.program.specs.Bytes.{tilde};
+ghost use Rattle.measure.specs.Width.{fontColumns, columnsOf, fontOf, widthOf, widest, fitsOf, columnOf};
+
+// The columns of the sign.
+const COLUMNS: usize = 96;
+
+// Where counting a width stops.
+const WIDEST: usize = 1000;
+
+// The columns of a character in a font, which goes by the letter that switches to it.
+fn font_columns(font: u8) -> usize
+    ensures { λ r. ⌜ r ≡ fontColumns font ⌝ }
+{
+    if font == b'D' {
+        return 6;
+    }
+    if font == b'd' {
+        return 7;
+    }
+    if font == b'B' {
+        return 8;
+    }
+    if font == b'b' {
+        return 9;
+    }
+    if font == b'C' {
+        return 5;
+    }
+    6
+}
+
+// The columns of one byte of a text, the byte before it being `last`.
+fn columns(font: u8, last: u8, x: u8) -> usize
+    ensures { λ r. ⌜ r ≡ columnsOf font last x ⌝ }
+{
+    if last == TILDE {
+        return 0;
+    }
+    if x == TILDE {
+        return 0;
+    }
+    if 0x80 <= x {
+        return 1;
+    }
+    font_columns(font)
+}
+
+// The font that a letter behind a tilde switches to; `G` leaves the font.
+fn switched(font: u8, letter: u8) -> u8
+    ensures { λ r. ⌜ r ≡ fontOf font tilde letter ⌝ }
+{
+    if letter == b'G' {
+        return font;
+    }
+    letter
+}
+
+// The font behind one byte of a text: only a letter behind a tilde switches it.
+fn font_behind(font: u8, last: u8, x: u8) -> u8
+    ensures { λ r. ⌜ r ≡ fontOf font last x ⌝ }
+{
+    if last == TILDE {
+        return switched(font, x);
+    }
+    font
+}
+
+// The sum of two counts of columns, or 1,000 where it is more.
+fn capped(sum: usize, more: usize) -> usize
+    requires { ⌜ (sum ≤ widest) × (more ≤ 9) ⌝ }
+    ensures { λ r. ⌜ r ≡ min (sum + more) widest ⌝ }
+{
+    let all = sum + more;
+    if WIDEST < all {
+        return WIDEST;
+    }
+    all
+}
+
+// The width of a text in columns. It counts to 1,000, which no text of a body comes near.
+pub fn width(text: &[u8]) -> usize
+    ensures { λ r. ⌜ r ≡ min (widthOf (now (text .entry))) widest ⌝ }
+{
+    let mut at: usize = 0;
+    let mut font = b'D';
+    let mut last: u8 = 0;
+    let mut sum: usize = 0;
+    while at < text.len() {
+        let x = text[at];
+        sum = capped(sum, columns(font, last, x));
+        font = font_behind(font, last, x);
+        last = x;
+        at += 1;
+    }
+    sum
+}
+
+// The width of the text of so many bytes that stands at a place of a body, as far as the body reaches.
+pub fn text_width(body: &[u8], place: usize, len: usize) -> usize
+    ensures { λ r. ⌜ r ≡ min (widthOf (take len (drop place (now (body .entry))))) widest ⌝ }
+{
+    if body.len() < place {
+        return 0;
+    }
+    if body.len() - place < len {
+        return width(&body[place..]);
+    }
+    width(&body[place..place + len])
+}
+
+// Whether a text of this width fits the sign.
+pub fn fits(width: usize) -> bool
+    ensures { λ r. ⌜ r ≡ fitsOf width ⌝ }
+{
+    width <= COLUMNS
+}
+
+// The column at which a shown text of this width starts; 0 where it doesn't fit.
+pub fn start_column(width: usize) -> usize
+    ensures { λ r. ⌜ r ≡ columnOf width ⌝ }
+{
+    if COLUMNS < width {
+        return 0;
+    }
+    (COLUMNS - width) / 2
+}

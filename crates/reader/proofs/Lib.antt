@@ -1,0 +1,4 @@
+pub mod Frame
+pub mod ReadBack
+pub mod Refusals
+pub mod Unique

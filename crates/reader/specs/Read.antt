@@ -1,0 +1,72 @@
+-- Reading a packet: the table of numbers 1 to 11 in 01, and the fields of what none of them refuses.
+use Prim.Native.Nat.{ℕ, zero, suc, _+_, _-_, _/_, _%_}
+use mathlib.Core.List.{List, [], _∷_}
+use mathlib.Core.Bool.{Bool, not}
+use lib.ListN.{length, getD}
+use lib.Dec.{eqb, ltb, leb}
+use Rattle.basis.specs.Bytes.{sum}
+use Rattle.basis.specs.Choice.{when, _and_, _or_}
+use Rattle.basis.specs.Rows.{Row, _if_, firstOf}
+use Rattle.reader.specs.declared.read.Reading.{Reading}
+use Rattle.reader.specs.declared.read.Reading.the-variants.{Query, Reset, Normal, Refused}
+
+-- 40h and 41h are the only IDs above 3Fh that number 8 lets pass
+abbrev pub isNormal : ℕ → Bool
+isNormal id = leb id 0x3F
+
+-- N is 1 to 6, position below N
+abbrev pub wrongPlace : ℕ → ℕ → Bool
+wrongPlace total position = ltb total 1 or ltb 6 total or leb total position
+
+-- numbers 9 to 11, of the ID, the fifth byte and the length
+abbrev pub fieldRows : ℕ → ℕ → ℕ → List Row
+fieldRows id fifth len =
+    9 if when (isNormal id) (eqb len 7) (ltb 7 len)
+    ∷ 10 if when (isNormal id) (wrongPlace (fifth / 16) (fifth % 16)) (not (eqb fifth 0x10))
+    ∷ 11 if (ltb (fifth % 16 + 1) (fifth / 16) and ltb (len - 7) 14)
+    ∷ []
+
+-- numbers 1 to 8, of the frame, and 9 to 11 behind them
+abbrev pub rowsOf : ℕ → List ℕ → List Row
+rowsOf mid b =
+    1 if ltb (length b) 7
+    ∷ 2 if ltb 21 (length b)
+    ∷ 3 if not (eqb (getD b 2 0) (length b))
+    ∷ 4 if not (eqb (sum b % 256) 0)
+    ∷ 5 if not (eqb (getD b 0 0) mid)
+    ∷ 6 if not (eqb (getD b 1 0) 0x7F)
+    ∷ 7 if not (eqb (getD b (length b - 2) 0) 0)
+    ∷ 8 if ltb 0x41 (getD b 3 0)
+    ∷ fieldRows (getD b 3 0) (getD b 4 0) (length b)
+
+-- refused with that number, or answered where it is 0
+abbrev pub refusedOr : ℕ → Reading → Reading
+refusedOr zero answer = answer
+refusedOr (suc n) answer = Refused (suc n)
+
+-- what the ID makes of a packet that nothing refuses
+abbrev pub named : ℕ → ℕ → ℕ → Reading
+named id fifth len =
+    when (isNormal id) (Normal id (fifth / 16) (fifth % 16) (len - 7)) (when (eqb id 0x40) Query Reset)
+
+-- the answer by the fields alone
+abbrev pub fieldsOf : ℕ → ℕ → ℕ → Reading
+fieldsOf id fifth len = refusedOr (firstOf (fieldRows id fifth len)) (named id fifth len)
+
+-- the lowest number that applies, or the packet's kind and fields
+unfoldable pub readOf : ℕ → List ℕ → Reading
+readOf mid b = refusedOr (firstOf (rowsOf mid b)) (named (getD b 3 0) (getD b 4 0) (length b))
+
+-- an answer in 01's words: the number for no (0 for yes), the ID, N, position and count of data bytes
+pub record Told : Type 0 where
+  pub number : ℕ
+  pub id : ℕ
+  pub total : ℕ
+  pub position : ℕ
+  pub len : ℕ
+
+abbrev pub toldOf : Reading → Told
+toldOf Query = record { number = 0; id = 0x40; total = 1; position = 0; len = 0 }
+toldOf Reset = record { number = 0; id = 0x41; total = 1; position = 0; len = 0 }
+toldOf (Normal id total position len) = record { number = 0; id = id; total = total; position = position; len = len }
+toldOf (Refused n) = record { number = n; id = 0; total = 0; position = 0; len = 0 }

@@ -1,0 +1,8 @@
+// Packets read (01, "The packet", and numbers 1 to 11), over the layout that the crate `packet` writes. No call has a `requires`; it
+// answers for any bytes.
+//   read    a packet's bytes to its fields, or the lowest number        "The lowest of 1 to 11 that applies is given"
+// proofs/ReadBack, Unique and Refusals join reading and writing: they are inverse on what they accept.
+mod read;
+
+pub use read::Reading;
+pub use read::read_packet;

@@ -1,0 +1,6 @@
+pub mod Sums
+pub mod Reckons
+pub mod Wholes
+pub mod Forecasts
+pub mod Small
+pub mod Demand

@@ -1,0 +1,171 @@
+-- The reckoning's code, command by command: what is added, where a stride stops, goes on and ends, and what a turn takes.
+use Prim.Native.Nat.{ℕ, _+_, _-_, _≤_, _<_}
+use mathlib.Core.List.{List}
+use mathlib.Core.Bool.{true, false}
+use mathlib.Core.Path.{_≡_, refl, sym, ap, _∙_}
+use native.Mathlib.Omega.{arith}
+use lib.ListN.{length, take, drop}
+use Rattle.measure.specs.Width.{widthOf}
+use Rattle.program.specs.Command.{readOf}
+use Rattle.program.specs.declared.Kind.{Kind}
+use Rattle.program.specs.declared.Kind.the-variants.{II, IA, IB, S, L, E, F, R, XS, XF, P, Scans, W, XD, XB, Y}
+use Rattle.program.specs.declared.Command.{Command}
+use Rattle.program.specs.declared.Reading.the-variants.{Good, Refused}
+use Rattle.perform.specs.Price.{answerOf}
+use Rattle.perform.specs.Settings.{behindOf}
+use Rattle.perform.specs.declared.settings.Settings.{Settings}
+use Rattle.perform.specs.declared.price.Performed.{Performed}
+use Rattle.judge.specs.Token.{roleOf, Tok, good, sizeOf, partOf, actOf, tokOf, get, chain, tokensOf}
+use Rattle.judge.specs.declared.Role.{Role}
+use Rattle.judge.specs.declared.Role.the-variants.{Plain, Repeat, Close, Forever, Again}
+use Rattle.judge.proofs.Moves.{next-is}
+use Rattle.judge.proofs.Tokens.{tokens-first, tokens-none}
+use Rattle.course.specs.Steps.{saysOf}
+use Rattle.judge.proofs.Values.{get-loop}
+use Rattle.reckon.specs.Reckon.{setsPart, addedOf, plainOf, strideOf, passOf, turnOf, loopedOf}
+use Rattle.reckon.specs.Totals.{noneOf, costOf, plusOf, timesOf}
+use Rattle.reckon.specs.declared.reckon.Reckoned.{Reckoned}
+use Rattle.reckon.specs.declared.totals.Totals.{Totals}
+use Rattle.machine.proofs.Commands.{says-is}
+
+-- only a plain command changes the settings
+sets-by : (k : Kind) (b : List ℕ) (p : ℕ) (c : Command) (σ : Settings) → c .kind ≡ k
+    → behindOf k (c .number) σ ≡ setsPart (partOf (roleOf k) (actOf b p c)) σ
+sets-by II b p c σ e = ap (λ (y : Kind). behindOf y (c .number) σ) (sym e)
+sets-by IA b p c σ e = ap (λ (y : Kind). behindOf y (c .number) σ) (sym e)
+sets-by IB b p c σ e = ap (λ (y : Kind). behindOf y (c .number) σ) (sym e)
+sets-by S b p c σ e = ap (λ (y : Kind). behindOf y (c .number) σ) (sym e)
+sets-by XS b p c σ e = ap (λ (y : Kind). behindOf y (c .number) σ) (sym e)
+sets-by XF b p c σ e = ap (λ (y : Kind). behindOf y (c .number) σ) (sym e)
+sets-by P b p c σ e = ap (λ (y : Kind). behindOf y (c .number) σ) (sym e)
+sets-by Scans b p c σ e = ap (λ (y : Kind). behindOf y (c .number) σ) (sym e)
+sets-by W b p c σ e = ap (λ (y : Kind). behindOf y (c .number) σ) (sym e)
+sets-by XD b p c σ e = ap (λ (y : Kind). behindOf y (c .number) σ) (sym e)
+sets-by XB b p c σ e = ap (λ (y : Kind). behindOf y (c .number) σ) (sym e)
+sets-by Y b p c σ e = ap (λ (y : Kind). behindOf y (c .number) σ) (sym e)
+sets-by L b p c σ e = refl
+sets-by E b p c σ e = refl
+sets-by F b p c σ e = refl
+sets-by R b p c σ e = refl
+
+-- what stands at the place of a good command
+pub stands-good : (b : List ℕ) (p : ℕ) (c : Command) → readOf b p ≡ Good c → get b p ≡ good (partOf (roleOf (c .kind)) (actOf b p c))
+stands-good b p c e = ap (tokOf b p) e
+
+module _ (b : List ℕ) (s : Reckoned) (c : Command) (e : readOf b (s .place) ≡ Good c) where
+  pub added-is : (w : ℕ) (y : Performed) (τ : Settings) (u v : Totals) → w ≡ widthOf (take (c .len) (drop (c .text) b))
+      → y ≡ answerOf (c .kind) (c .number) (c .text) (c .len) w (s .settings)
+      → τ ≡ behindOf (c .kind) (c .number) (s .settings)
+      → v ≡ costOf y
+      → u ≡ plusOf (s .totals) v
+      → _≡_ {A = Reckoned} (record { place = c .next; settings = τ; totals = u }) (addedOf (get b (s .place)) s)
+  added-is w y τ u v ew ey et ev eu =
+      let p = s .place in
+      let ρ = roleOf (c .kind) in
+      let part = partOf ρ (actOf b p c) in
+      let place : c .next ≡ p + sizeOf part = sym (next-is b p c e ρ refl) in
+      let set : τ ≡ setsPart part (s .settings) = et ∙ sets-by (c .kind) b p c (s .settings) refl in
+      let says : y ≡ saysOf part (s .settings) =
+      ey ∙ ap (λ (n : ℕ). answerOf (c .kind) (c .number) (c .text) (c .len) n (s .settings)) ew ∙ sym (says-is b p c (s .settings) e) in
+      let sum : u ≡ plusOf (s .totals) (costOf (saysOf part (s .settings))) = eu ∙ ap (plusOf (s .totals)) (ev ∙ ap costOf says) in
+      ap (λ (n : ℕ). record { place = n; settings = τ; totals = u }) place
+      ∙ ap (λ (x : Settings). record { place = p + sizeOf part; settings = x; totals = u }) set
+      ∙ ap (λ (x : Totals). record { place = p + sizeOf part; settings = setsPart part (s .settings); totals = x }) sum
+      ∙ ap (λ (t : Tok). addedOf t s) (sym (stands-good b p c e))
+
+  module _ (within : s .place < length b) where
+    by-first : strideOf (tokensOf b (s .place)) s
+        ≡ strideOf (chain (good (partOf (roleOf (c .kind)) (actOf b (s .place) c))) (λ z. tokensOf b (s .place + z))) s
+    by-first =
+        ap (λ (ts : List Tok). strideOf ts s) (tokens-first b (s .place) within)
+        ∙ ap (λ (t : Tok). strideOf (chain t (λ z. tokensOf b (s .place + z))) s) (stands-good b (s .place) c e)
+
+    -- a stride stops before a command of structure
+    pub stride-stops : plainOf (roleOf (c .kind)) ≡ false → strideOf (tokensOf b (s .place)) s ≡ s
+    stride-stops h = by-first ∙ go (roleOf (c .kind)) h
+      where
+        go : (ρ : Role) → plainOf ρ ≡ false → strideOf (chain (good (partOf ρ (actOf b (s .place) c))) (λ z. tokensOf b (s .place + z))) s ≡ s
+        go Plain q = let z : _≡_ {A = ℕ} 0 1 = cc in absurd (omega arith)
+        go Repeat q = refl
+        go Close q = refl
+        go Forever q = refl
+        go Again q = refl
+
+    -- and goes on behind a plain one
+    pub stride-goes : plainOf (roleOf (c .kind)) ≡ true
+        → strideOf (tokensOf b (s .place)) s ≡ strideOf (tokensOf b (addedOf (get b (s .place)) s .place)) (addedOf (get b (s .place)) s)
+    stride-goes h =
+        by-first
+        ∙ go (roleOf (c .kind)) h
+        ∙ ap (λ (t : Tok). strideOf (tokensOf b (addedOf t s .place)) (addedOf t s)) (sym (stands-good b (s .place) c e))
+      where
+        go : (ρ : Role) → plainOf ρ ≡ true
+            → strideOf (chain (good (partOf ρ (actOf b (s .place) c))) (λ z. tokensOf b (s .place + z))) s
+            ≡ strideOf (tokensOf b (addedOf (good (partOf ρ (actOf b (s .place) c))) s .place)) (addedOf (good (partOf ρ (actOf b (s .place) c))) s)
+        go Plain q = refl
+        go Repeat q = let z : _≡_ {A = ℕ} 0 1 = cc in absurd (omega arith)
+        go Close q = let z : _≡_ {A = ℕ} 0 1 = cc in absurd (omega arith)
+        go Forever q = let z : _≡_ {A = ℕ} 0 1 = cc in absurd (omega arith)
+        go Again q = let z : _≡_ {A = ℕ} 0 1 = cc in absurd (omega arith)
+
+-- where nothing good stands a stride stops too
+pub stride-none : (b : List ℕ) (s : Reckoned) (n q : ℕ) → s .place < length b → readOf b (s .place) ≡ Refused n q
+    → strideOf (tokensOf b (s .place)) s ≡ s
+stride-none b s n q within e =
+    ap (λ (ts : List Tok). strideOf ts s) (tokens-first b (s .place) within)
+    ∙ ap (λ (t : Tok). strideOf (chain t (λ z. tokensOf b (s .place + z))) s) (ap (tokOf b (s .place)) e)
+
+-- at the end it ends
+pub stride-ends : (b : List ℕ) (s : Reckoned) → length b ≤ s .place → strideOf (tokensOf b (s .place)) s ≡ s
+stride-ends b s h = ap (λ (ts : List Tok). strideOf ts s) (tokens-none b (s .place) h)
+
+-- one pass, where nothing good or something good stands behind its plain commands
+pub pass-none : (b : List ℕ) (s x : Reckoned) (n q : ℕ) → x ≡ strideOf (tokensOf b (s .place)) s → readOf b (x .place) ≡ Refused n q → x ≡ passOf b s
+pass-none b s x n q ex e = ap (λ (t : Tok). addedOf t x) (sym (ap (tokOf b (x .place)) e)) ∙ ap (λ (y : Reckoned). addedOf (get b (y .place)) y) ex
+
+pub pass-good : (b : List ℕ) (s x y : Reckoned) → x ≡ strideOf (tokensOf b (s .place)) s → y ≡ addedOf (get b (x .place)) x → y ≡ passOf b s
+pass-good b s x y ex ey = ey ∙ ap (λ (z : Reckoned). addedOf (get b (z .place)) z) ex
+
+-- a loop, from its two passes
+pub looped-is : (b : List ℕ) (n : ℕ) (s f g : Reckoned) (u v z : Totals) → f ≡ passOf b s → z ≡ noneOf
+    → g ≡ passOf b (record { place = s .place; settings = f .settings; totals = z })
+    → v ≡ timesOf (n - 1) (g .totals)
+    → u ≡ plusOf (f .totals) v
+    → _≡_ {A = Reckoned} (record { place = f .place; settings = f .settings; totals = u }) (loopedOf b n s)
+looped-is b n s f g u v z ef ez eg ev eu =
+    let second : g ≡ passOf b (record { place = s .place; settings = f .settings; totals = noneOf }) =
+    eg ∙ ap (λ (t : Totals). passOf b (record { place = s .place; settings = f .settings; totals = t })) ez in
+    let sum : u ≡ plusOf (f .totals) (timesOf (n - 1) (passOf b (record { place = s .place; settings = f .settings; totals = noneOf }) .totals)) =
+    eu ∙ ap (plusOf (f .totals)) (ev ∙ ap (λ (x : Reckoned). timesOf (n - 1) (x .totals)) second) in
+    ap (λ (t : Totals). record { place = f .place; settings = f .settings; totals = t }) sum
+    ∙ ap (λ (x : Reckoned). record { place = x .place; settings = x .settings; totals = plusOf (x .totals) (timesOf (n - 1) (passOf b (record { place = s .place; settings = x .settings; totals = noneOf }) .totals)) }) ef
+
+module _ (b : List ℕ) (s : Reckoned) (c : Command) (e : readOf b (s .place) ≡ Good c) where
+  -- a turn goes by the role of the command at its place
+  by-role : (ρ : Role) → roleOf (c .kind) ≡ ρ → get b (s .place) ≡ good (partOf ρ (actOf b (s .place) c))
+  by-role ρ h = stands-good b (s .place) c e ∙ ap (λ (x : Role). good (partOf x (actOf b (s .place) c))) h
+
+  pub turn-plain : (y : Reckoned) → roleOf (c .kind) ≡ Plain → y ≡ addedOf (get b (s .place)) s → y ≡ turnOf b (get b (s .place)) s
+  turn-plain y h ey =
+      ey ∙ ap (λ (t : Tok). addedOf t s) (by-role Plain h) ∙ ap (λ (t : Tok). turnOf b t s) (sym (by-role Plain h))
+
+  pub turn-loop : (x y : Reckoned) → roleOf (c .kind) ≡ Repeat → x ≡ addedOf (get b (s .place)) s → y ≡ loopedOf b (c .number) x
+      → y ≡ turnOf b (get b (s .place)) s
+  turn-loop x y h ex ey =
+      ey ∙ ap (loopedOf b (c .number)) (ex ∙ ap (λ (t : Tok). addedOf t s) (by-role Repeat h)) ∙ ap (λ (t : Tok). turnOf b t s) (sym (by-role Repeat h))
+
+  pub turn-count : roleOf (c .kind) ≡ Repeat → 1 ≤ c .number
+  turn-count h = get-loop b (s .place) (c .number) (c .next - s .place) (by-role Repeat h) .least
+
+  pub turn-close : roleOf (c .kind) ≡ Close → record { place = length b; settings = s .settings; totals = s .totals } ≡ turnOf b (get b (s .place)) s
+  turn-close h = ap (λ (t : Tok). turnOf b t s) (sym (by-role Close h))
+
+  pub turn-forever : roleOf (c .kind) ≡ Forever → record { place = length b; settings = s .settings; totals = s .totals } ≡ turnOf b (get b (s .place)) s
+  turn-forever h = ap (λ (t : Tok). turnOf b t s) (sym (by-role Forever h))
+
+  pub turn-again : roleOf (c .kind) ≡ Again → record { place = length b; settings = s .settings; totals = s .totals } ≡ turnOf b (get b (s .place)) s
+  turn-again h = ap (λ (t : Tok). turnOf b t s) (sym (by-role Again h))
+
+pub turn-none : (b : List ℕ) (s : Reckoned) (n q : ℕ) → readOf b (s .place) ≡ Refused n q
+    → record { place = length b; settings = s .settings; totals = s .totals } ≡ turnOf b (get b (s .place)) s
+turn-none b s n q e = ap (λ (t : Tok). turnOf b t s) (sym (ap (tokOf b (s .place)) e))

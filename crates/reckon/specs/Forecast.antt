@@ -1,0 +1,64 @@
+-- The forecast: the sums over the steps of a run, from its start until it is Ready.
+-- 01: "The forecast gives totals of steps, scans and milliseconds (32 bits suffice), or says endless"; 17: "forecast with pace or
+-- scan setting out of range, before 21 to 28".
+use Prim.Native.Nat.{ℕ, zero, suc, _+_}
+use mathlib.Core.List.{List}
+use mathlib.Core.Bool.{Bool, false, not}
+use lib.Dec.{eqb}
+use Rattle.basis.specs.Choice.{when, _and_, within}
+use Rattle.units.specs.Units.{capped}
+use Rattle.perform.specs.declared.settings.Settings.{Settings}
+use Rattle.perform.specs.declared.price.Performed.{Performed}
+use Rattle.judge.specs.Verdict.{judgeOf}
+use Rattle.judge.specs.declared.Verdict.{Verdict}
+use Rattle.judge.specs.declared.Verdict.the-variants.{Finite, Endless, Refused}
+use Rattle.course.specs.Price.{ones, scans, millis, leavesOf}
+use Rattle.course.proofs.Programs.{treeIn}
+use Rattle.machine.specs.Step.{stepOf, startedOf}
+use Rattle.reckon.specs.Totals.{totalsOf, pricesOf}
+use Rattle.machine.specs.declared.Answer.{Answer}
+use Rattle.machine.specs.declared.Answer.the-variants.{Did, Idle, Refused as RefusedStep}
+use Rattle.machine.specs.declared.Run.{Run}
+use Rattle.reckon.specs.declared.reckon.Foretold.{Foretold}
+use Rattle.reckon.specs.declared.reckon.Foretold.the-variants.{Ends, Endless as Never, Refused as RefusedForecast}
+use Rattle.reckon.specs.declared.reckon.Priced.{Priced}
+use Rattle.reckon.specs.declared.totals.Totals.{Totals}
+
+-- a measure of what a step answered
+abbrev pub measured : (Performed → ℕ) → Answer → ℕ
+measured f (Did x) = f x
+measured f Idle = 0
+measured f (RefusedStep n) = 0
+
+-- the sum of a measure over the steps of a run until it is Ready, within so many steps
+unfoldable pub tally : (Performed → ℕ) → ℕ → Run → ℕ
+tally f zero r = 0
+tally f (suc k) r = when (eqb (r .len) 0) 0 (measured f (stepOf r .answer) + tally f k (stepOf r .run))
+
+-- no program that ends takes more steps
+abbrev pub mostSteps : ℕ
+mostSteps = 3961
+
+-- the totals of a run until it is Ready, as the units hold them
+unfoldable pub talliesOf : Run → Totals
+talliesOf r = totalsOf (capped (tally ones mostSteps r)) (capped (tally scans mostSteps r)) (capped (tally millis mostSteps r))
+
+-- the caller's pace and scans; what else a sign is set to costs nothing
+abbrev pub settingsAt : ℕ → ℕ → Settings
+settingsAt pace each = record { pace = pace; scans = each; sink = false; dim = 16; bright = 0 }
+
+abbrev pub outOfRange : ℕ → ℕ → Bool
+outOfRange pace each = not (within 1 pace 20 and within 1 each 6)
+
+abbrev pub byVerdict : Verdict → Totals → Foretold
+byVerdict Finite t = Ends t
+byVerdict Endless t = Never
+byVerdict (Refused n p) t = RefusedForecast n p
+
+unfoldable pub forecastOf : List ℕ → ℕ → ℕ → Foretold
+forecastOf b pace each =
+    when (outOfRange pace each) (RefusedForecast 17 0) (byVerdict (judgeOf b) (talliesOf (startedOf b (settingsAt pace each))))
+
+-- what a program that ends costs by two readings of its loops, and the settings that it leaves
+abbrev pub pricedOf : List ℕ → Settings → Priced
+pricedOf b σ = record { totals = pricesOf (treeIn b .block) σ; settings = leavesOf (treeIn b .block) σ }

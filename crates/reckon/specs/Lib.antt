@@ -1,0 +1,3 @@
+pub mod Forecast
+pub mod Reckon
+pub mod Totals

@@ -1,0 +1,221 @@
+// The forecast. Answers to 01: "The forecast gives totals of steps, scans and milliseconds (32 bits suffice), or says endless. It
+// should read a loop's commands at most twice", and number 17.
+use crate::Totals;
+use judge::Role;
+use judge::Verdict;
+use judge::judge;
+use judge::role_of;
+use measure::text_width;
+use perform::Settings;
+use perform::perform;
+use program::Command;
+use program::Kind;
+use program::Reading;
+use program::read_command;
+ghost use mathlib.Core.Path.{_≡_};
+ghost use Prim.Native.Nat.{_≤_};
+ghost use lib.ListN.{length};
+ghost use Rattle.program.specs.Command.{readOf};
+ghost use Rattle.program.specs.declared.Reading.the-variants.{Good};
+ghost use Rattle.judge.specs.Token.{get, tokensOf};
+ghost use Rattle.judge.specs.Verdict.{judgeOf};
+ghost use Rattle.judge.specs.declared.Verdict.the-variants.{Finite};
+ghost use Rattle.judge.specs.Token.{roleOf};
+ghost use Rattle.reckon.specs.Forecast.{forecastOf, pricedOf};
+ghost use Rattle.reckon.specs.Reckon.{addedOf, plainOf, strideOf, passOf, loopedOf, turnOf};
+
+// How far a program is reckoned: the place, the settings there, and the totals so far.
+pub struct Reckoned {
+    pub place: usize,
+    pub settings: Settings,
+    pub totals: Totals,
+}
+
+// The command at the place, added.
+fn added(body: &[u8], command: Command, at: Reckoned) -> Reckoned
+    requires { ⌜ (readOf (now body) (at .place) ≡ Good command) × (length (now body) ≤ 84) ⌝ }
+    ensures { λ r. ⌜ r ≡ addedOf (get (now (body .entry)) (at .place)) at ⌝ }
+{
+    let kind = command.kind;
+    let number = command.number as u8;
+    let text = command.text;
+    let count = command.len;
+    let settings = at.settings;
+    let totals = at.totals;
+    let wide = text_width(body, text, count);
+    let performed = perform(kind, number, text, count, wide, settings);
+    Reckoned {
+        place: command.next,
+        settings: settings.behind(kind, number),
+        totals: totals.plus(Totals::cost(performed)),
+    }
+}
+
+// Whether a command of this kind leaves the course of a program as it is.
+fn plain(kind: Kind) -> bool
+    ensures { λ r. ⌜ r ≡ plainOf (roleOf kind) ⌝ }
+{
+    let role = role_of(kind);
+    match role {
+        Role::Plain => true,
+        Role::Repeat => false,
+        Role::Close => false,
+        Role::Forever => false,
+        Role::Again => false,
+    }
+}
+
+// Plain commands up to the next `L`, `E`, `F` or `R`, or the end.
+fn stride(body: &[u8], from: Reckoned) -> Reckoned
+    requires { ⌜ length (now body) ≤ 84 ⌝ }
+    ensures { λ r. ⌜ r ≡ strideOf (tokensOf (now (body .entry)) (from .place)) from ⌝ }
+{
+    let mut at = from;
+    let mut place = at.place;
+    while place < body.len() {
+        let read = read_command(body, place);
+        let Reading::Good(command) = read else {
+            return at;
+        };
+        let kind = command.kind;
+        if !plain(kind) {
+            return at;
+        }
+        at = added(body, command, at);
+        place = at.place;
+    }
+    at
+}
+
+// One pass of a loop: its plain commands from a place on, and the command behind them.
+fn pass(body: &[u8], from: Reckoned) -> Reckoned
+    requires { ⌜ length (now body) ≤ 84 ⌝ }
+    ensures { λ r. ⌜ r ≡ passOf (now (body .entry)) from ⌝ }
+{
+    let at = stride(body, from);
+    let place = at.place;
+    let read = read_command(body, place);
+    match read {
+        Reading::Refused(_, _) => at,
+        Reading::Good(command) => added(body, command, at),
+    }
+}
+
+// A loop of so many passes, behind its `L`: read once, and once more for all later passes.
+fn looped(body: &[u8], number: u8, from: Reckoned) -> Reckoned
+    requires { ⌜ (length (now body) ≤ 84) × (1 ≤ number) ⌝ }
+    ensures { λ r. ⌜ r ≡ loopedOf (now (body .entry)) number from ⌝ }
+{
+    let first = pass(body, from);
+    let settings = first.settings;
+    let totals = first.totals;
+    let second = Reckoned {
+        place: from.place,
+        settings,
+        totals: Totals::none(),
+    };
+    let again = pass(body, second);
+    let later = again.totals;
+    Reckoned {
+        place: first.place,
+        settings,
+        totals: totals.plus(later.times(number - 1)),
+    }
+}
+
+// A plain command, or a whole loop.
+fn turn(body: &[u8], at: Reckoned) -> Reckoned
+    requires { ⌜ length (now body) ≤ 84 ⌝ }
+    ensures { λ r. ⌜ r ≡ turnOf (now (body .entry)) (get (now (body .entry)) (at .place)) at ⌝ }
+{
+    let place = at.place;
+    let mut past = at;
+    past.place = body.len();
+    let read = read_command(body, place);
+    match read {
+        Reading::Refused(_, _) => past,
+        Reading::Good(command) => {
+            let kind = command.kind;
+            let number = command.number as u8;
+            let role = role_of(kind);
+            match role {
+                Role::Plain => added(body, command, at),
+                Role::Repeat => looped(body, number, added(body, command, at)),
+                Role::Close => past,
+                Role::Forever => past,
+                Role::Again => past,
+            }
+        }
+    }
+}
+
+// What a program that ends costs, and the settings behind it.
+pub struct Priced {
+    pub totals: Totals,
+    pub settings: Settings,
+}
+
+// All commands of a program that comes to an end.
+fn reckon(body: &[u8], settings: Settings) -> Priced
+    requires { ⌜ judgeOf (now body) ≡ Finite ⌝ }
+    ensures { λ r. ⌜ r ≡ pricedOf (now (body .entry)) settings ⌝ }
+{
+    let mut at = Reckoned {
+        place: 0,
+        settings,
+        totals: Totals::none(),
+    };
+    let mut place: usize = 0;
+    while place < body.len() {
+        at = turn(body, at);
+        place = at.place;
+    }
+    let totals = at.totals;
+    let last = at.settings;
+    Priced {
+        totals,
+        settings: last,
+    }
+}
+
+// What is told of a program beforehand: the totals until it is Ready, that it never is, or the refusal and its place.
+pub enum Foretold {
+    Ends(Totals),
+    Endless,
+    Refused(u8, usize),
+}
+
+// How long a body will run when it is started at this pace and this many scans a shift.
+pub fn forecast(body: &[u8], pace: u8, scans: u8) -> Foretold
+    ensures { λ r. ⌜ r ≡ forecastOf (now (body .entry)) pace scans ⌝ }
+{
+    if pace < 1 {
+        return Foretold::Refused(17, 0);
+    }
+    if 20 < pace {
+        return Foretold::Refused(17, 0);
+    }
+    if scans < 1 {
+        return Foretold::Refused(17, 0);
+    }
+    if 6 < scans {
+        return Foretold::Refused(17, 0);
+    }
+    let verdict = judge(body);
+    match verdict {
+        Verdict::Refused(n, place) => Foretold::Refused(n, place),
+        Verdict::Endless => Foretold::Endless,
+        Verdict::Finite => {
+            let settings = Settings {
+                pace,
+                scans,
+                sink: false,
+                dim: 16,
+                bright: 0,
+            };
+            let priced = reckon(body, settings);
+            let totals = priced.totals;
+            Foretold::Ends(totals)
+        }
+    }
+}

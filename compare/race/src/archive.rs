@@ -1,0 +1,92 @@
+//! The calls of the archive, as its C header declares them.
+//! Answers to that header; all that is unsafe in the race is here.
+
+use crate::case::{Case, Function, Lent};
+
+unsafe extern "C" {
+    fn yd_read_packet(mid: u8, bytes: *const u8, bytes_len: usize, answer: *mut u8, answer_len: usize) -> u32;
+    fn yd_write_query(mid: u8, out: *mut u8, out_len: usize) -> u32;
+    fn yd_write_reset(mid: u8, out: *mut u8, out_len: usize) -> u32;
+    fn yd_write_packet(
+        mid: u8,
+        id: u8,
+        body: *const u8,
+        body_len: usize,
+        position: u8,
+        out: *mut u8,
+        out_len: usize,
+    ) -> u32;
+    fn yd_write_transmission(mid: u8, id: u8, body: *const u8, body_len: usize, out: *mut u8, out_len: usize) -> u32;
+    fn yd_write_reply(mid: u8, last: u8, busy: u8, sink: u8, out: *mut u8, out_len: usize) -> u32;
+    fn yd_read_reply(mid: u8, bytes: *const u8, bytes_len: usize, answer: *mut u8, answer_len: usize) -> u32;
+    fn yd_judge(body: *const u8, body_len: usize) -> u32;
+    fn yd_forecast(body: *const u8, body_len: usize, pace: u8, scans: u8, answer: *mut u8, answer_len: usize) -> u32;
+    fn yd_power_on(image: *mut u8, image_len: usize) -> u32;
+    fn yd_reset(image: *mut u8, image_len: usize) -> u32;
+    fn yd_receive(
+        image: *mut u8,
+        image_len: usize,
+        mid: u8,
+        bytes: *const u8,
+        bytes_len: usize,
+        answer: *mut u8,
+        answer_len: usize,
+    ) -> u32;
+    fn yd_step(image: *mut u8, image_len: usize, answer: *mut u8, answer_len: usize) -> u32;
+    fn yd_reply(image: *const u8, image_len: usize, mid: u8, aux: u8, out: *mut u8, out_len: usize) -> u32;
+    fn yd_copy_body(image: *const u8, image_len: usize, out: *mut u8, out_len: usize) -> u32;
+    fn yd_repeat(body: *const u8, body_len: usize, place: usize, length: usize) -> u32;
+}
+
+/// Has the archive answer a case on these lent bytes.
+pub fn call(case: &Case, lent: Lent) -> u32 {
+    match case.function {
+        Function::PowerOn
+        | Function::Reset
+        | Function::Receive
+        | Function::Step
+        | Function::Reply
+        | Function::CopyBody => call_with_image(case, lent),
+        _ => call_without_image(case, lent),
+    }
+}
+
+fn call_without_image(case: &Case, lent: Lent) -> u32 {
+    let [a, b, c, d] = case.numbers.map(|number| number as u8);
+    let [place, length, ..] = case.numbers;
+    let (bytes, bytes_len) = (lent.bytes.as_mut_ptr().cast_const(), lent.bytes.len());
+    let (out, out_len) = (lent.out.as_mut_ptr(), lent.out.len());
+    // SAFETY: each pointer and its length come from a slice that is alive, not null and apart from the others.
+    unsafe {
+        match case.function {
+            Function::ReadPacket => yd_read_packet(a, bytes, bytes_len, out, out_len),
+            Function::WriteQuery => yd_write_query(a, out, out_len),
+            Function::WriteReset => yd_write_reset(a, out, out_len),
+            Function::WritePacket => yd_write_packet(a, b, bytes, bytes_len, c, out, out_len),
+            Function::WriteTransmission => yd_write_transmission(a, b, bytes, bytes_len, out, out_len),
+            Function::WriteReply => yd_write_reply(a, b, c, d, out, out_len),
+            Function::ReadReply => yd_read_reply(a, bytes, bytes_len, out, out_len),
+            Function::Judge => yd_judge(bytes, bytes_len),
+            Function::Forecast => yd_forecast(bytes, bytes_len, a, b, out, out_len),
+            _ => yd_repeat(bytes, bytes_len, place, length),
+        }
+    }
+}
+
+fn call_with_image(case: &Case, lent: Lent) -> u32 {
+    let [a, b, ..] = case.numbers.map(|number| number as u8);
+    let (bytes, bytes_len) = (lent.bytes.as_mut_ptr().cast_const(), lent.bytes.len());
+    let (image, image_len) = (lent.image.as_mut_ptr(), lent.image.len());
+    let (out, out_len) = (lent.out.as_mut_ptr(), lent.out.len());
+    // SAFETY: each pointer and its length come from a slice that is alive, not null and apart from the others.
+    unsafe {
+        match case.function {
+            Function::PowerOn => yd_power_on(image, image_len),
+            Function::Reset => yd_reset(image, image_len),
+            Function::Receive => yd_receive(image, image_len, a, bytes, bytes_len, out, out_len),
+            Function::Step => yd_step(image, image_len, out, out_len),
+            Function::Reply => yd_reply(image, image_len, a, b, out, out_len),
+            _ => yd_copy_body(image, image_len, out, out_len),
+        }
+    }
+}

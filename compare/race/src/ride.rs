@@ -1,0 +1,180 @@
+//! Rides: one sign through many calls, with packets in and out of order, again, of other messages and for other signs.
+//! Answers to 01, "Joining" and "One step, and what it costs".
+
+use crate::bodies;
+use crate::case::{After, Case, Function};
+use crate::packets;
+use crate::racer::Racer;
+use crate::records::packet_for;
+use crate::sizes::WITH_IMAGE;
+use reference::image::{AT_LENGTH, IMAGE};
+
+/// A sign under way, and the packets around it.
+struct Ride {
+    image: Vec<u8>,
+    mid: u8,
+    id: u8,
+    /// The packets still to come of the message that is being sent.
+    coming: Vec<Vec<u8>>,
+    /// Packets that were sent before, or belong to a message that competes.
+    around: Vec<Vec<u8>>,
+}
+
+/// Lets a sign ride from power-on, and keeps some of the images that it comes through.
+pub fn ride(racer: &mut Racer, reached: &mut Vec<Vec<u8>>) -> Option<()> {
+    let image = racer.random.bytes(IMAGE);
+    let mid = racer.random.byte();
+    let image = racer.call(Case::new(Function::PowerOn, &[]).image(&image))?.image().to_vec();
+    let mut ride = Ride { image, mid, id: racer.random.byte() & 0x3F, coming: Vec::new(), around: Vec::new() };
+    for _ in 0..racer.random.within(50, 400) {
+        ride.go(racer)?;
+        if racer.random.chance(4) {
+            reached.push(ride.image.clone());
+        }
+    }
+    Some(())
+}
+
+impl Ride {
+    /// One thing that happens to the sign.
+    fn go(&mut self, racer: &mut Racer) -> Option<()> {
+        let busy = self.image[AT_LENGTH] != 0;
+        match racer.random.below(100) {
+            0..45 if busy => self.steps(racer),
+            0..45 => self.next_packet(racer),
+            45..55 => self.packet_again(racer),
+            55..67 => self.odd_packet(racer),
+            67..77 => self.steps(racer),
+            77..82 => self.copy_and_repeat(racer),
+            82..88 => self.reply(racer),
+            88..92 => self.special(racer),
+            92..94 => self.on_image(racer, Case::new(Function::Reset, &[])),
+            94..97 => self.refused(racer),
+            97 => self.on_image(racer, Case::new(Function::PowerOn, &[])),
+            _ => {
+                self.send(racer);
+                Some(())
+            }
+        }
+    }
+
+    /// Has the sign answer, and goes on with the image that it left.
+    fn call(&mut self, racer: &mut Racer, case: Case) -> Option<After> {
+        let after = racer.call(case.image(&self.image))?;
+        self.image = after.image().to_vec();
+        Some(after)
+    }
+
+    fn on_image(&mut self, racer: &mut Racer, case: Case) -> Option<()> {
+        self.call(racer, case).map(drop)
+    }
+
+    fn receive(&mut self, racer: &mut Racer, bytes: Vec<u8>) -> Option<()> {
+        let answer = racer.answer(Function::Receive);
+        self.on_image(racer, Case::new(Function::Receive, &[self.mid.into()]).bytes(bytes).out(answer))
+    }
+
+    /// Begins to send a new message, in order or not, perhaps with another one around it.
+    fn send(&mut self, racer: &mut Racer) {
+        let random = &mut racer.random;
+        self.id = if random.chance(80) { (self.id + 1) & 0x3F } else { random.byte() & 0x3F };
+        let mut body = if random.chance(80) { bodies::program(random) } else { bodies::body(random) };
+        body.truncate(84);
+        self.coming = packets::transmission(self.mid, self.id, &body);
+        if random.chance(40) {
+            for from in (1..self.coming.len()).rev() {
+                self.coming.swap(from, random.below(from + 1));
+            }
+        }
+        self.coming.reverse();
+        if random.chance(30) {
+            bodies::mutate(random, &mut body);
+            body.truncate(84);
+            let other = if random.chance(50) { self.id } else { random.byte() & 0x3F };
+            self.around.extend(packets::transmission(self.mid, other, &body));
+        }
+        let excess = self.around.len().saturating_sub(24);
+        self.around.drain(..excess);
+    }
+
+    fn next_packet(&mut self, racer: &mut Racer) -> Option<()> {
+        if self.coming.is_empty() {
+            self.send(racer);
+        }
+        let Some(bytes) = self.coming.pop() else {
+            return Some(());
+        };
+        self.around.push(bytes.clone());
+        self.receive(racer, bytes)
+    }
+
+    /// A packet that came before or competes.
+    fn packet_again(&mut self, racer: &mut Racer) -> Option<()> {
+        if self.around.is_empty() {
+            return self.next_packet(racer);
+        }
+        let recent = self.around.len() - 1;
+        let any = racer.random.below(self.around.len());
+        let bytes = self.around[racer.random.pick(&[recent, any])].clone();
+        self.receive(racer, bytes)
+    }
+
+    /// A packet that is damaged, for another sign, or close to what is held.
+    fn odd_packet(&mut self, racer: &mut Racer) -> Option<()> {
+        let random = &mut racer.random;
+        let other = self.mid ^ 1 << random.below(8);
+        let bytes = match random.below(4) {
+            0 => packets::packet(random, self.mid),
+            1 => packets::whole(random, other),
+            _ => packet_for(random, &self.image, self.mid),
+        };
+        self.receive(racer, bytes)
+    }
+
+    fn special(&mut self, racer: &mut Racer) -> Option<()> {
+        let id = racer.random.pick(&[0x40, 0x40, 0x41]);
+        self.receive(racer, packets::frame(self.mid, id, 0x10, &[]))
+    }
+
+    /// Some steps, mostly few, sometimes to the end of what runs.
+    fn steps(&mut self, racer: &mut Racer) -> Option<()> {
+        for _ in 0..racer.random.pick(&[1, 1, 2, 5, 12]) {
+            let answer = racer.answer(Function::Step);
+            self.on_image(racer, Case::new(Function::Step, &[]).out(answer))?;
+        }
+        Some(())
+    }
+
+    /// What a driver does: copy the body, step, and show the step's text.
+    fn copy_and_repeat(&mut self, racer: &mut Racer) -> Option<()> {
+        let out = racer.buffer(self.image[AT_LENGTH].into());
+        let copy = self.call(racer, Case::new(Function::CopyBody, &[]).out(out))?;
+        let step = self.call(racer, Case::new(Function::Step, &[]).out(vec![0; 28]))?;
+        if copy.result & 0xFF != 0 {
+            return Some(());
+        }
+        let body = copy.out()[..(copy.result >> 8) as usize].to_vec();
+        let numbers = [step.word(2) as usize, step.word(3) as usize];
+        racer.call(Case::new(Function::Repeat, &numbers).bytes(body)).map(drop)
+    }
+
+    fn reply(&mut self, racer: &mut Racer) -> Option<()> {
+        let aux = racer.random.pick(&[0, 1, 2, 255]);
+        let out = racer.buffer(8);
+        self.on_image(racer, Case::new(Function::Reply, &[self.mid.into(), aux]).out(out))
+    }
+
+    /// A call on an image of the wrong size.
+    fn refused(&mut self, racer: &mut Racer) -> Option<()> {
+        let size = racer.random.pick(&[0, 1, IMAGE - 1, IMAGE + 1, IMAGE + 14]);
+        let any = racer.random.below(IMAGE + 20);
+        let mut image = self.image.clone();
+        image.resize(racer.random.pick(&[size, any]), 0);
+        for function in WITH_IMAGE {
+            let bytes = packets::whole(&mut racer.random, self.mid);
+            let out = racer.answer(function);
+            racer.call(Case::new(function, &[self.mid.into()]).image(&image).bytes(bytes).out(out))?;
+        }
+        Some(())
+    }
+}

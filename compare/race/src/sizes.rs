@@ -1,0 +1,64 @@
+//! Buffers and images of every size, once in each race.
+//! Answers to the numbers 34, 251 and 252.
+
+use crate::bodies;
+use crate::case::{Case, Function};
+use crate::packets;
+use crate::racer::Racer;
+use crate::records::{packet_for, record};
+use reference::image::IMAGE;
+
+/// How far the sizes go beyond what any call needs.
+const MORE: usize = 24;
+
+/// Each call that is lent a buffer, with every size up to more than it needs.
+pub fn buffers(racer: &mut Racer) -> Option<()> {
+    for size in 0..=126 + MORE {
+        let out = racer.random.bytes(size);
+        let body = bodies::program(&mut racer.random);
+        let long = racer.random.bytes(84);
+        let sign = record(&mut racer.random);
+        let packet = packet_for(&mut racer.random, &sign, 0x80);
+        let reply = packets::frame(0x81, 0x41, b'R', b"F");
+        let cases = [
+            Case::new(Function::WriteQuery, &[0x80]),
+            Case::new(Function::WriteReset, &[0x80]),
+            Case::new(Function::WriteReply, &[0x80, 0x41, 1, 1]),
+            Case::new(Function::WritePacket, &[0x80, 5, 2]).bytes(long.clone()),
+            Case::new(Function::WritePacket, &[0x80, 5, 0]).bytes(body.clone()),
+            Case::new(Function::WriteTransmission, &[0x80, 5]).bytes(long),
+            Case::new(Function::WriteTransmission, &[0x80, 5]).bytes(body.clone()),
+            Case::new(Function::ReadPacket, &[0x80]).bytes(packet.clone()),
+            Case::new(Function::ReadReply, &[0x80]).bytes(reply),
+            Case::new(Function::Forecast, &[4, 1]).bytes(body),
+            Case::new(Function::Receive, &[0x80]).bytes(packet).image(&sign),
+            Case::new(Function::Step, &[]).image(&sign),
+            Case::new(Function::Reply, &[0x80, 1]).image(&sign),
+            Case::new(Function::CopyBody, &[]).image(&sign),
+        ];
+        for case in cases {
+            racer.call(case.out(out.clone()))?;
+        }
+    }
+    Some(())
+}
+
+/// Each call that is lent an image, with every size up to more than it needs, and an answer that is enough or is not.
+pub fn images(racer: &mut Racer) -> Option<()> {
+    for size in 0..=IMAGE + MORE {
+        let mut image = record(&mut racer.random);
+        image.resize(size, 0);
+        let packet = packets::whole(&mut racer.random, 0x80);
+        for answer in [0, 100] {
+            for function in WITH_IMAGE {
+                let out = racer.random.bytes(answer);
+                racer.call(Case::new(function, &[0x80]).image(&image).bytes(packet.clone()).out(out))?;
+            }
+        }
+    }
+    Some(())
+}
+
+/// The calls that take an image.
+pub const WITH_IMAGE: [Function; 6] =
+    [Function::PowerOn, Function::Reset, Function::Receive, Function::Step, Function::Reply, Function::CopyBody];

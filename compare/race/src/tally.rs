@@ -1,0 +1,125 @@
+//! How often each call, each number for no and each outcome occurred, and what never did.
+//! Answers to the C interface's lists, so that a reader sees what the generator reaches.
+
+use crate::case::{After, Case, Function, SHAPES};
+
+/// A count over the values that one word of an answer, or a result, can take.
+struct Group {
+    name: &'static str,
+    function: Function,
+    read: fn(&After) -> Option<u32>,
+    expected: &'static [u32],
+}
+
+fn yes(after: &After) -> bool {
+    after.result & 0xFF == 0
+}
+
+fn first_word(after: &After) -> Option<u32> {
+    yes(after).then(|| after.word(0))
+}
+
+fn released(after: &After) -> Option<u32> {
+    (yes(after) && after.word(0) == 5).then(|| after.word(1))
+}
+
+fn value(after: &After) -> Option<u32> {
+    yes(after).then_some(after.result >> 8)
+}
+
+#[rustfmt::skip]
+const GROUPS: [Group; 10] = [
+    Group { name: "yd_read_packet, what", function: Function::ReadPacket, read: first_word, expected: &[1, 2, 3] },
+    Group { name: "yd_read_reply, Busy", function: Function::ReadReply,
+        read: |after| yes(after).then(|| after.word(1)), expected: &[0, 1] },
+    Group { name: "yd_read_reply, AUX reads S", function: Function::ReadReply,
+        read: |after| yes(after).then(|| after.word(2)), expected: &[0, 1] },
+    Group { name: "yd_judge, endless", function: Function::Judge, read: value, expected: &[0, 1] },
+    Group { name: "yd_forecast, endless", function: Function::Forecast, read: first_word, expected: &[0, 1] },
+    Group { name: "yd_receive, outcome", function: Function::Receive, read: first_word, expected: &[1, 2, 3, 4, 5] },
+    Group { name: "yd_receive, number of a released body", function: Function::Receive, read: released,
+        expected: &[0, 21, 22, 23, 24, 25, 26, 27] },
+    Group { name: "yd_step, kind", function: Function::Step, read: first_word,
+        expected: &[0, 1, 2, 3, 4, 5, 6, 7, 8, 9, 10, 11, 12, 13, 14, 15, 16] },
+    Group { name: "yd_write_packet, packets in full or not", function: Function::WritePacket,
+        read: |after| value(after).map(|length| u32::from(length == 21)), expected: &[0, 1] },
+    Group { name: "yd_repeat, shows the stretch", function: Function::Repeat, read: |after| Some(after.result),
+        expected: &[0, 1] },
+];
+
+const VALUES: usize = 256;
+
+pub struct Tally {
+    calls: [u64; SHAPES.len()],
+    noes: Vec<[u64; VALUES]>,
+    groups: Vec<[u64; VALUES]>,
+}
+
+impl Tally {
+    pub fn new() -> Self {
+        Tally {
+            calls: [0; SHAPES.len()],
+            noes: vec![[0; VALUES]; SHAPES.len()],
+            groups: vec![[0; VALUES]; GROUPS.len()],
+        }
+    }
+
+    /// Counts what a case led to.
+    pub fn count(&mut self, case: &Case, after: &After) {
+        let function = case.function as usize;
+        self.calls[function] += 1;
+        if !SHAPES[function].noes.is_empty() {
+            self.noes[function][(after.result & 0xFF) as usize] += 1;
+        }
+        for (group, counts) in GROUPS.iter().zip(&mut self.groups) {
+            if group.function == case.function
+                && let Some(value) = (group.read)(after)
+            {
+                counts[(value as usize).min(VALUES - 1)] += 1;
+            }
+        }
+    }
+
+    /// Prints all counts.
+    pub fn print(&self) {
+        for ((shape, calls), noes) in SHAPES.iter().zip(self.calls).zip(&self.noes) {
+            println!("{}: {calls} calls", shape.name);
+            print_counts("  by number:", noes);
+        }
+        for (group, counts) in GROUPS.iter().zip(&self.groups) {
+            println!("{}:", group.name);
+            print_counts(" ", counts);
+        }
+    }
+
+    /// What should have occurred and did not, or occurred and should not have.
+    pub fn faults(&self) -> Vec<String> {
+        let mut faults = Vec::new();
+        for (shape, noes) in SHAPES.iter().zip(&self.noes) {
+            let expected: Vec<u32> = shape.noes.iter().map(|&no| no.into()).collect();
+            check(&format!("{}: number", shape.name), &expected, noes, &mut faults);
+        }
+        for (group, counts) in GROUPS.iter().zip(&self.groups) {
+            check(group.name, group.expected, counts, &mut faults);
+        }
+        faults
+    }
+}
+
+fn print_counts(title: &str, counts: &[u64]) {
+    let occurred = counts.iter().enumerate().filter(|(_, count)| **count > 0);
+    let words: Vec<String> = occurred.map(|(value, count)| format!("{value}: {count}")).collect();
+    if !words.is_empty() {
+        println!("{title} {}", words.join(", "));
+    }
+}
+
+fn check(name: &str, expected: &[u32], counts: &[u64], faults: &mut Vec<String>) {
+    for (value, count) in (0u32..).zip(counts) {
+        match (expected.contains(&value), *count > 0) {
+            (true, false) => faults.push(format!("{name} {value} never occurred")),
+            (false, true) => faults.push(format!("{name} {value} occurred, which the header does not list")),
+            _ => {}
+        }
+    }
+}

@@ -1,0 +1,221 @@
+//! One function for each call of the C interface, over lent slices, with the reference behind it.
+//! Answers to that interface: its results, its answers in words, and its numbers 251 and 252.
+
+use crate::image::IMAGE;
+use crate::machine::{Forecast, Step, forecast as forecast_of};
+use crate::no::{No, Refusal};
+use crate::packet::{self, Packet, Reply};
+use crate::program;
+use crate::sign::{Received, Released, Sign, stretch};
+
+/// The sizes of the answers.
+pub const READ_ANSWER: usize = 20;
+pub const HEARD_ANSWER: usize = 12;
+pub const FORECAST_ANSWER: usize = 16;
+pub const RECEIVE_ANSWER: usize = 100;
+pub const STEP_ANSWER: usize = 28;
+
+/// Where a released body stands in its answer.
+pub const AT_RELEASED: usize = 16;
+
+/// The numbers that only this interface has.
+pub const IMAGE_SIZE: u32 = 251;
+pub const ANSWER_SHORT: u32 = 252;
+
+const YES: u32 = 0;
+
+fn yes(value: usize) -> u32 {
+    (value as u32) << 8
+}
+
+fn refused(refusal: Refusal) -> u32 {
+    yes(refusal.place.into()) | refusal.no as u32
+}
+
+/// The result of a call whose yes is a length.
+fn written(result: Result<usize, No>) -> u32 {
+    match result {
+        Ok(length) => yes(length),
+        Err(no) => no as u32,
+    }
+}
+
+/// Lays words at the front of an answer, lowest byte first.
+fn lay_words(words: &[u32], answer: &mut [u8]) {
+    for (word, bytes) in words.iter().zip(answer.chunks_exact_mut(4)) {
+        bytes.copy_from_slice(&word.to_le_bytes());
+    }
+}
+
+pub fn read_packet(mid: u8, bytes: &[u8], answer: &mut [u8]) -> u32 {
+    let Some(answer) = answer.first_chunk_mut::<READ_ANSWER>() else {
+        return ANSWER_SHORT;
+    };
+    let words = match packet::read_packet(mid, bytes) {
+        Err(no) => return no as u32,
+        Ok(Packet::Query) => [1, 0, 0, 0, 0],
+        Ok(Packet::Reset) => [2, 0, 0, 0, 0],
+        Ok(Packet::Normal(normal)) => {
+            let length = normal.data.len() as u32;
+            [3, normal.id.into(), normal.total.into(), normal.position.into(), length]
+        }
+    };
+    lay_words(&words, answer);
+    YES
+}
+
+pub fn write_query(mid: u8, out: &mut [u8]) -> u32 {
+    written(packet::write_query(mid, out))
+}
+
+pub fn write_reset(mid: u8, out: &mut [u8]) -> u32 {
+    written(packet::write_reset(mid, out))
+}
+
+pub fn write_packet(mid: u8, id: u8, body: &[u8], position: u8, out: &mut [u8]) -> u32 {
+    written(packet::write_packet(mid, id, body, position, out))
+}
+
+pub fn write_transmission(mid: u8, id: u8, body: &[u8], out: &mut [u8]) -> u32 {
+    written(packet::write_transmission(mid, id, body, out))
+}
+
+pub fn write_reply(mid: u8, last: u8, busy: u8, sink: u8, out: &mut [u8]) -> u32 {
+    let reply = Reply { last, busy: busy != 0, sink: sink != 0 };
+    written(packet::write_reply(mid, reply, out))
+}
+
+pub fn read_reply(mid: u8, bytes: &[u8], answer: &mut [u8]) -> u32 {
+    let Some(answer) = answer.first_chunk_mut::<HEARD_ANSWER>() else {
+        return ANSWER_SHORT;
+    };
+    match packet::read_reply(mid, bytes) {
+        Err(no) => no as u32,
+        Ok(reply) => {
+            lay_words(&[reply.last.into(), reply.busy.into(), reply.sink.into()], answer);
+            YES
+        }
+    }
+}
+
+pub fn judge(body: &[u8]) -> u32 {
+    match program::judge(body) {
+        Ok(endless) => yes(endless.into()),
+        Err(refusal) => refused(refusal),
+    }
+}
+
+pub fn forecast(body: &[u8], pace: u8, scans: u8, answer: &mut [u8]) -> u32 {
+    let Some(answer) = answer.first_chunk_mut::<FORECAST_ANSWER>() else {
+        return ANSWER_SHORT;
+    };
+    let words = match forecast_of(body, pace, scans) {
+        Err(refusal) => return refused(refusal),
+        Ok(Forecast::Endless) => [1, 0, 0, 0],
+        Ok(Forecast::Ends(totals)) => [0, totals.steps, totals.scans, totals.milliseconds],
+    };
+    lay_words(&words, answer);
+    YES
+}
+
+pub fn power_on(image: &mut [u8]) -> u32 {
+    let Ok(image) = <&mut [u8; IMAGE]>::try_from(image) else {
+        return IMAGE_SIZE;
+    };
+    Sign::power_on().write_image(image);
+    YES
+}
+
+pub fn reset(image: &mut [u8]) -> u32 {
+    let Ok(image) = <&mut [u8; IMAGE]>::try_from(image) else {
+        return IMAGE_SIZE;
+    };
+    let mut sign = Sign::from_image(image);
+    match sign.reset() {
+        Err(no) => no as u32,
+        Ok(()) => {
+            sign.write_image(image);
+            YES
+        }
+    }
+}
+
+pub fn receive(image: &mut [u8], mid: u8, bytes: &[u8], answer: &mut [u8]) -> u32 {
+    let Ok(image) = <&mut [u8; IMAGE]>::try_from(image) else {
+        return IMAGE_SIZE;
+    };
+    let Some(answer) = answer.first_chunk_mut::<RECEIVE_ANSWER>() else {
+        return ANSWER_SHORT;
+    };
+    let mut sign = Sign::from_image(image);
+    match sign.receive(mid, bytes) {
+        Err(no) => no as u32,
+        Ok(received) => {
+            sign.write_image(image);
+            lay_received(&received, answer);
+            YES
+        }
+    }
+}
+
+fn lay_received(received: &Received, answer: &mut [u8; RECEIVE_ANSWER]) {
+    let outcome = match received {
+        Received::Query => 1,
+        Received::Reset => 2,
+        Received::Repeat => 3,
+        Received::Stored => 4,
+        Received::Released(released) => return lay_released(released, answer),
+    };
+    *answer = [0; RECEIVE_ANSWER];
+    answer[0] = outcome;
+}
+
+fn lay_released(released: &Released, answer: &mut [u8; RECEIVE_ANSWER]) {
+    let (no, place) = match released.refusal {
+        None => (0, 0),
+        Some(refusal) => (refusal.no as u32, refusal.place.into()),
+    };
+    lay_words(&[5, no, place, released.length.into()], answer);
+    answer[AT_RELEASED..].copy_from_slice(&released.body);
+}
+
+pub fn step(image: &mut [u8], answer: &mut [u8]) -> u32 {
+    let Ok(image) = <&mut [u8; IMAGE]>::try_from(image) else {
+        return IMAGE_SIZE;
+    };
+    let Some(answer) = answer.first_chunk_mut::<STEP_ANSWER>() else {
+        return ANSWER_SHORT;
+    };
+    let mut sign = Sign::from_image(image);
+    match sign.step() {
+        Err(no) => no as u32,
+        Ok(step) => {
+            sign.write_image(image);
+            lay_words(&step_words(&step), answer);
+            YES
+        }
+    }
+}
+
+fn step_words(step: &Step) -> [u32; 7] {
+    let kind = step.kind.map_or(0, |kind| kind as u32);
+    [kind, step.number, step.place, step.length, step.column, step.scans, step.milliseconds]
+}
+
+pub fn reply(image: &[u8], mid: u8, aux: u8, out: &mut [u8]) -> u32 {
+    match <&[u8; IMAGE]>::try_from(image) {
+        Err(_) => IMAGE_SIZE,
+        Ok(image) => written(Sign::from_image(image).reply(mid, aux != 0, out)),
+    }
+}
+
+pub fn copy_body(image: &[u8], out: &mut [u8]) -> u32 {
+    match <&[u8; IMAGE]>::try_from(image) {
+        Err(_) => IMAGE_SIZE,
+        Ok(image) => written(Sign::from_image(image).copy_body(out)),
+    }
+}
+
+pub fn repeat(body: &[u8], place: usize, length: usize) -> u32 {
+    stretch(body, place, length).is_some().into()
+}

@@ -1,0 +1,107 @@
+//! Images and the calls over slices: sizes, words, and what stays.
+//! Answers to the C interface's numbers 251 and 252 and its layout.
+
+use reference::calls;
+use reference::image::{AT_BODY, AT_LENGTH, AT_SINK, IMAGE};
+use reference::sign::Sign;
+
+const HI: [u8; 12] = [0x80, 0x7F, 0x0C, 0x05, 0x10, 0x5E, 0x49, 0x49, 0x48, 0x49, 0x00, 0x5F];
+
+fn power_on() -> [u8; IMAGE] {
+    let mut image = [0xEE; IMAGE];
+    assert_eq!(calls::power_on(&mut image), 0);
+    image
+}
+
+fn words<const COUNT: usize>(answer: &[u8]) -> [u32; COUNT] {
+    std::array::from_fn(|index| u32::from_le_bytes(answer[4 * index..][..4].try_into().unwrap()))
+}
+
+#[test]
+fn an_image_is_a_record_and_back() {
+    let image: [u8; IMAGE] = std::array::from_fn(|index| index as u8 ^ 0x5A);
+    let mut back = [0; IMAGE];
+    Sign::from_image(&image).write_image(&mut back);
+    assert_eq!(back[AT_SINK], 1);
+    back[AT_SINK] = image[AT_SINK];
+    assert_eq!(back, image);
+    assert_eq!(&power_on()[177..], [0, 0, 0, 0, 4, 1, 0, 16, 0]);
+    assert_eq!(power_on()[0], 0x41);
+    assert!(power_on()[1..177].iter().all(|&byte| byte == 0));
+}
+
+#[test]
+fn sizes_come_first() {
+    for size in (0..IMAGE).chain([IMAGE + 1, IMAGE + 200]) {
+        let mut image = vec![7; size];
+        assert_eq!(calls::power_on(&mut image), 251);
+        assert_eq!(calls::reset(&mut image), 251);
+        assert_eq!(calls::receive(&mut image, 0, &[], &mut []), 251);
+        assert_eq!(calls::step(&mut image, &mut []), 251);
+        assert_eq!(calls::reply(&image, 0, 0, &mut []), 251);
+        assert_eq!(calls::copy_body(&image, &mut []), 251);
+        assert_eq!(image, vec![7; size]);
+    }
+    let mut unsound = [7; IMAGE];
+    assert_eq!(calls::receive(&mut unsound, 0, &[], &mut [0; 99]), 252);
+    assert_eq!(calls::receive(&mut unsound, 0, &[], &mut [0; 100]), 16);
+    assert_eq!(calls::step(&mut unsound, &mut [0; 27]), 252);
+    assert_eq!(calls::step(&mut unsound, &mut [0; 28]), 16);
+    assert_eq!(calls::reset(&mut unsound), 16);
+    assert_eq!(calls::reply(&unsound, 0, 0, &mut []), 16);
+    assert_eq!(calls::copy_body(&unsound, &mut []), 16);
+    assert_eq!(calls::read_packet(0, &[], &mut [0; 19]), 252);
+    assert_eq!(calls::read_reply(0, &[], &mut [0; 11]), 252);
+    assert_eq!(calls::forecast(&[], 0, 0, &mut [0; 15]), 252);
+}
+
+#[test]
+fn answers_in_words() {
+    let mut answer = [0xEE; 104];
+    assert_eq!(calls::read_packet(0x80, &HI, &mut answer), 0);
+    assert_eq!(words(&answer), [3, 5, 1, 0, 5, 0xEEEEEEEE]);
+    let query = [0x80, 0x7F, 0x07, 0x40, 0x10, 0x00, 0xAA];
+    assert_eq!(calls::read_packet(0x80, &query, &mut answer), 0);
+    assert_eq!(words(&answer), [1, 0, 0, 0, 0]);
+    assert_eq!(calls::read_reply(0x80, &[0x81, 0x7F, 8, 0x41, 0x52, 0x46, 0, 0x1F], &mut answer), 0);
+    assert_eq!(words(&answer), [0x41, 0, 0]);
+    assert_eq!(calls::forecast(b"^L2^SHI^P20^E", 4, 1, &mut answer), 0);
+    assert_eq!(words(&answer), [0, 7, 216, 3264]);
+    assert_eq!(calls::forecast(b"^SHI^R", 4, 1, &mut answer), 0);
+    assert_eq!(words(&answer), [1, 0, 0, 0]);
+    assert_eq!(calls::judge(b"^R"), 1 << 8);
+    assert_eq!(calls::judge(b"^IIa~x"), 4 << 8 | 25);
+    assert_eq!(calls::write_reply(0x80, 0x41, 0, 0, &mut answer), 8 << 8);
+    assert_eq!(calls::repeat(b"^S", 2, 0), 1);
+}
+
+#[test]
+fn a_message_from_line_to_end() {
+    let mut image = power_on();
+    let mut answer = [0xEE; 104];
+    assert_eq!(calls::receive(&mut image, 0x80, &HI, &mut answer), 0);
+    assert_eq!(words(&answer), [5, 0, 0, 5]);
+    assert_eq!(
+        (&answer[16..21], &answer[21..100], &answer[100..]),
+        (b"^IIHI".as_slice(), [0; 79].as_slice(), [0xEE; 4].as_slice())
+    );
+    assert_eq!((image[AT_LENGTH], &image[AT_BODY..AT_BODY + 5]), (5, b"^IIHI".as_slice()));
+    assert_eq!(calls::copy_body(&image, &mut answer), 5 << 8);
+    assert_eq!(calls::step(&mut image, &mut answer), 0);
+    assert_eq!(words(&answer), [1, 0, 3, 2, 42, 0, 0]);
+    assert_eq!(calls::step(&mut image, &mut answer), 0);
+    assert_eq!(words(&answer), [0; 7]);
+    let mut expected = power_on();
+    expected[0] = 5;
+    assert_eq!(image, expected);
+}
+
+#[test]
+fn the_aux_byte_is_written_as_0_or_1() {
+    let mut image = power_on();
+    image[AT_SINK] = 7;
+    assert_eq!(calls::receive(&mut image, 0x81, &HI, &mut [0; 100]), 5);
+    assert_eq!(image[AT_SINK], 7);
+    assert_eq!(calls::step(&mut image, &mut [0; 28]), 0);
+    assert_eq!(image[AT_SINK], 1);
+}

@@ -3,3 +3,4 @@ pub mod Line
 pub mod Outcome
 pub mod Wire
 pub mod Record
+pub mod Lent

@@ -173,7 +173,7 @@ use Rattle.sign.proofs.repeat.Kinds as sign-repeat-kinds
 use Rattle.sign.proofs.repeat.Reads as sign-repeat-reads
 
 -- two that are equal to a third are equal: all that is needed where a contract is an equation
-one : {A : Type 0} {x y z : A} → x ≡ z → y ≡ z → x ≡ y
+pub one : {A : Type 0} {x y z : A} → x ≡ z → y ≡ z → x ≡ y
 one h k = h ∙ sym k
 
 pub one-reader-read-packet : (κs : Lifetimes.Lfts 1) (a : World.ArgsD reader-read-packet.signature κs) (r r′ : World.ResD reader-read-packet.signature κs)

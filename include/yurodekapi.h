@@ -1,7 +1,8 @@
 /* Yurodekapi for C: the calls of the message unit over numbers and lent bytes.
  *
  * Every call answers for all inputs. It returns a result of 32 bits: the number for no in its low byte (0 is yes), and a value above it.
- * A yes of a writer has the length in the value; a no of a program has the place there. A call that is refused changes no lent byte.
+ * A yes of a writer has the length in the value; a no of 21 to 28 has the place there; where nothing is said of the value it is 0.
+ * A call that is refused changes no lent byte.
  *
  * Buffers. A buffer is a pointer and a length. The pointer must be good for that many bytes and must not be null, at length 0 either.
  * Buffers of one call must not overlap if one of them is written. An answer may be lent more bytes than it needs: those behind it stay.
@@ -112,7 +113,7 @@ enum {
     YD_AT_LOOP_LEFT = 180,  /* passes left, this one counted, 0 outside loops */
     YD_AT_PACE = 181,
     YD_AT_SCANS = 182,      /* scans per shift */
-    YD_AT_SINK = 183,       /* AUX drive: 0 floats, all else sinks; a call writes 0 or 1 */
+    YD_AT_SINK = 183,       /* AUX drive: 0 floats, all else sinks; a call that says yes and may change the image writes 0 or 1 */
     YD_AT_DIM = 184,        /* dim threshold */
     YD_AT_BRIGHT = 185      /* forced brightness, 0 if none */
 };
@@ -129,7 +130,7 @@ uint32_t yd_reset(uint8_t *image, size_t image_len);
 enum {
     YD_DID_QUERY = 1,    /* answer it with yd_reply */
     YD_DID_RESET = 2,
-    YD_DID_REPEAT = 3,   /* held or completed already: nothing changed */
+    YD_DID_REPEAT = 3,   /* held or completed already: the record stays */
     YD_DID_STORE = 4,
     YD_DID_RELEASE = 5,  /* all packets are there: Busy if the body is an accepted program */
     YD_AT_RELEASED = 16, /* where the released body stands in the answer */
@@ -138,7 +139,7 @@ enum {
 uint32_t yd_receive(uint8_t *image, size_t image_len, uint8_t mid, const uint8_t *bytes, size_t bytes_len, uint8_t *answer, size_t answer_len);
 
 /* One step. Words: kind performed, its number as written, its text's place and length in the body, start column, scans, milliseconds;
- * what a command lacks is 0. A Ready sign is Idle: all words 0, nothing changed. No: 251, 252, 16. */
+ * what a command lacks is 0. A Ready sign is Idle: all words 0, and the record stays. No: 251, 252, 16. */
 enum {
     YD_IDLE = 0,
     YD_II = 1,

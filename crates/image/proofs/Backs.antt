@@ -5,8 +5,8 @@ use mathlib.Core.List.{List, [], _∷_, _++_}
 use mathlib.Core.Path.{_≡_, refl, sym, ap, _∙_}
 use native.Mathlib.Omega.{arith}
 use lib.Dec.{eqb}
-use lib.ListN.{length, take, drop, getD, length-append}
-use lib.Seq.{take-append-seam, drop-append-seam, drop-drop, getD-drop, length-take-le}
+use lib.ListN.{length, take, drop, getD, length-append, drop-of-length-le, take-append-drop}
+use lib.Seq.{take-append-seam, drop-append-seam, drop-drop, drop-cons, getD-drop, length-take-le}
 use borrow.Author.Tests.{eqb-true, eqb-false}
 use Rattle.basis.specs.Choice.{when, _and_}
 use Rattle.basis.specs.Bytes.{Bytes}
@@ -178,3 +178,48 @@ image-small b h = record { len = byte-at b 177 h; place = byte-at b 178 h; behin
 -- and its own image is read as that record again
 pub image-back : (b : List ℕ) → length b ≡ 186 → Bytes b → recordOf (imageOf (recordOf b)) ≡ recordOf b
 image-back b e h = record-back (recordOf b) (image-shaped b e) (image-small b h)
+
+-- so many elements from a place on, one by one
+abbrev listed : List ℕ → (n at : ℕ) → List ℕ
+listed b zero at = []
+listed b (suc n) at = getD b at 0 ∷ listed b n (suc at)
+
+to-the-end : (b : List ℕ) (n at : ℕ) → at + n ≡ length b → drop at b ≡ listed b n at
+to-the-end b zero at e = let past : length b ≤ at = omega arith in drop-of-length-le b past
+to-the-end b (suc n) at e =
+    let here : at < length b = omega arith in
+    let rest : suc at + n ≡ length b = omega arith in
+    drop-cons b at 0 here ∙ ap (λ (l : List ℕ). getD b at 0 ∷ l) (to-the-end b n (suc at) rest)
+
+-- a part of a list, and what stands behind it
+cut : (b : List ℕ) (at n : ℕ) → take n (drop at b) ++ drop (at + n) b ≡ drop at b
+cut b at n = ap (λ (l : List ℕ). take n (drop at b) ++ l) (sym (drop-drop n at b)) ∙ take-append-drop n (drop at b)
+
+-- a sink byte of 0 or 1 is written as it was
+sink-again : (x : ℕ) → x ≤ 1 → when (not (eqb x 0)) 1 0 ≡ x
+sink-again zero h = refl
+sink-again (suc zero) h = refl
+sink-again (suc (suc x)) h = absurd (omega arith)
+
+-- an image whose AUX byte is 0 or 1 is the image of its record, byte for byte
+pub image-again : (b : List ℕ) → length b ≡ 186 → Bytes b → getD b 183 0 ≤ 1 → imageOf (recordOf b) ≡ b
+unfolding imageOf recordOf
+image-again b e h sink =
+    let n : getD b 177 0 % 256 ≡ getD b 177 0 = omega (arith, byte-at b 177 h) in
+    let q : getD b 178 0 % 256 ≡ getD b 178 0 = omega (arith, byte-at b 178 h) in
+    let k : getD b 179 0 % 256 ≡ getD b 179 0 = omega (arith, byte-at b 179 h) in
+    let end : drop 177 b ≡ listed b 9 177 = to-the-end b 9 177 (sym e) in
+    let first : 0 < length b = omega arith in
+    let second : 1 < length b = omega arith in
+    let third : 2 < length b = omega arith in
+    let front : b ≡ getD b 0 0 ∷ getD b 1 0 ∷ getD b 2 0 ∷ drop 3 b =
+    drop-cons b 0 0 first
+    ∙ ap (λ (l : List ℕ). getD b 0 0 ∷ l) (drop-cons b 1 0 second ∙ ap (λ (l : List ℕ). getD b 1 0 ∷ l) (drop-cons b 2 0 third)) in
+    let parts : take 6 (drop 3 b) ++ (take 84 (drop 9 b) ++ (take 84 (drop 93 b) ++ drop 177 b)) ≡ drop 3 b =
+    ap (λ (l : List ℕ). take 6 (drop 3 b) ++ (take 84 (drop 9 b) ++ l)) (cut b 93 84)
+    ∙ ap (λ (l : List ℕ). take 6 (drop 3 b) ++ l) (cut b 9 84)
+    ∙ cut b 3 6 in
+    rw (n, q, k, sink-again (getD b 183 0) sink)
+    (ap (λ (l : List ℕ). getD b 0 0 ∷ getD b 1 0 ∷ getD b 2 0 ∷ (take 6 (drop 3 b) ++ (take 84 (drop 9 b) ++ (take 84 (drop 93 b) ++ l)))) (sym end)
+    ∙ ap (λ (l : List ℕ). getD b 0 0 ∷ getD b 1 0 ∷ getD b 2 0 ∷ l) parts
+    ∙ sym front)

@@ -4,17 +4,20 @@ use mathlib.Core.Path.{_≡_, refl, sym, ap, subst, _∙_}
 use mathlib.Core.Bool.{Bool, true, false}
 use mathlib.Core.List.{List, [], _∷_}
 use native.Mathlib.Omega.{arith}
-use borrow.Author.Tests.{eq-eqb, ne-eqb}
-use lib.Dec.{eqb}
-use lib.ListN.{length}
-use Rattle.basis.specs.Choice.{when}
+use borrow.Author.Tests.{eq-eqb, ne-eqb, eqb-true, eqb-false, le-leb, leb-true, leb-false, lt-ltb, le-ltb}
+use lib.Dec.{eqb, ltb, leb}
+use lib.ListN.{length, getD}
+use Rattle.basis.specs.Choice.{when, _and_}
+use Rattle.basis.proofs.Choices.{and-parts, when-true, when-false}
+use Rattle.program.specs.Bytes.{caret}
 use Rattle.judge.specs.Token.{Part, act, rep, close, forever, again, Tok, good, bad, sizeOf, get, chain, tokensOf}
 use Rattle.judge.specs.Structure.{Structure, broken, kept, structureOf, roleIn, opened, Move, stop, go, moved, moveOf}
 use Rattle.judge.specs.Flow.{roomOf, endedOf, opensOf, flowOf, turnOf}
-use Rattle.judge.specs.Verdict.{endOf, judge}
-use Rattle.judge.specs.Standing.{insideOf, stood, standAt}
+use Rattle.judge.specs.Verdict.{endOf, judge, commandsOf, begunOf, judgeOf}
+use Rattle.judge.specs.Standing.{insideOf, stood, standAt, orElse, ofAccepted}
+use Rattle.judge.specs.declared.Open.{Open}
 use Rattle.judge.specs.declared.Standing.{Standing}
-use Rattle.judge.specs.declared.Standing.the-variants.{Nowhere}
+use Rattle.judge.specs.declared.Standing.the-variants.{Nowhere, Outside, Inside}
 use Rattle.judge.specs.declared.Flow.{Flow}
 use Rattle.judge.specs.declared.Flow.the-variants.{Free, Within, Ended}
 use Rattle.judge.specs.declared.Turn.{Turn}
@@ -139,19 +142,6 @@ stand-here b q p f h e = ap (λ (ts : List Tok). standFrom q ts p f) (tokens-fir
     by (bad k r) = ap (λ (u : Bool). when u (insideOf (opensOf f)) (beyond q (bad k r) [] p f)) (eq-eqb p q e)
 
 -- it is not, and is looked for behind the command here
-pub stand-stop : (b : List ℕ) (q p n r : ℕ) (f : Flow) → p < length b → (p ≡ q → ⊥) → turnAt (get b p) p f ≡ Stop n r → standFrom q (tokensOf b p) p f ≡ Nowhere
-stand-stop b q p n r f h d e = ap (λ (ts : List Tok). standFrom q ts p f) (tokens-first b p h) ∙ by (get b p) e
-  where
-    by : (t : Tok) → turnAt t p f ≡ Stop n r → standFrom q (chain t (λ z. tokensOf b (p + z))) p f ≡ Nowhere
-    by (good c) e′ =
-        ap (λ (u : Bool). when u (insideOf (opensOf f)) (beyond q (good c) (tokensOf b (p + sizeOf c)) p f)) (ne-eqb p q d)
-        ∙ look-good q c (tokensOf b (p + sizeOf c)) p f
-        ∙ ap (λ (x : Turn). look q x (tokensOf b (p + sizeOf c))) e′
-    by (bad k s) e′ =
-        ap (λ (u : Bool). when u (insideOf (opensOf f)) (beyond q (bad k s) [] p f)) (ne-eqb p q d)
-        ∙ look-bad q k s p f
-        ∙ ap (λ (x : Turn). look q x []) e′
-
 pub stand-next : (b : List ℕ) (q p k : ℕ) (f g : Flow) → p < length b → (p ≡ q → ⊥) → turnAt (get b p) p f ≡ Next k g → standFrom q (tokensOf b p) p f ≡ standFrom q (tokensOf b k) k g
 stand-next b q p k f g h d e = ap (λ (ts : List Tok). standFrom q ts p f) (tokens-first b p h) ∙ by (get b p) e
   where
@@ -172,3 +162,58 @@ stand-next b q p k f g h d e = ap (λ (ts : List Tok). standFrom q ts p f) (toke
 
 pub stand-none : (b : List ℕ) (q p : ℕ) (f : Flow) → length b ≤ p → standFrom q (tokensOf b p) p f ≡ Nowhere
 stand-none b q p f h = ap (λ (ts : List Tok). standFrom q ts p f) (tokens-none b p h)
+
+-- what was found stands, and a place that is somewhere is found
+or-somewhere : (o : List Open) (s t : Standing) → orElse (orElse s (insideOf o)) t ≡ orElse s (insideOf o)
+or-somewhere [] Nowhere t = refl
+or-somewhere (l ∷ o) Nowhere t = refl
+or-somewhere o Outside t = refl
+or-somewhere o (Inside behind number) t = refl
+
+or-nowhere : (s : Standing) → orElse s Nowhere ≡ s
+or-nowhere Nowhere = refl
+or-nowhere Outside = refl
+or-nowhere (Inside behind number) = refl
+
+-- a command passed: what is found with it, and what is looked for behind it
+pub found-next : (b : List ℕ) (q p k : ℕ) (f g : Flow) (s s′ all : Standing) → p < length b → turnAt (get b p) p f ≡ Next k g
+    → orElse s (standFrom q (tokensOf b p) p f) ≡ all → s′ ≡ when (eqb p q) (orElse s (insideOf (opensOf f))) s
+    → orElse s′ (standFrom q (tokensOf b k) k g) ≡ all
+found-next b q p k f g s s′ all h e inv noted = go (eqb p q) refl noted
+  where
+    go : (t : Bool) → eqb p q ≡ t → s′ ≡ when t (orElse s (insideOf (opensOf f))) s → orElse s′ (standFrom q (tokensOf b k) k g) ≡ all
+    go true w n =
+        ap (λ (x : Standing). orElse x (standFrom q (tokensOf b k) k g)) n
+        ∙ or-somewhere (opensOf f) s (standFrom q (tokensOf b k) k g)
+        ∙ ap (orElse s) (sym (stand-here b q p f h (eqb-true p q w)))
+        ∙ inv
+    go false w n =
+        ap (λ (x : Standing). orElse x (standFrom q (tokensOf b k) k g)) n
+        ∙ ap (orElse s) (sym (stand-next b q p k f g h (eqb-false p q w) e))
+        ∙ inv
+
+-- behind the last command nothing more is found
+pub found-all : (b : List ℕ) (q p : ℕ) (f : Flow) (s all : Standing) → length b ≤ p → orElse s (standFrom q (tokensOf b p) p f) ≡ all → s ≡ all
+found-all b q p f s all h inv = sym (or-nowhere s) ∙ ap (orElse s) (sym (stand-none b q p f h)) ∙ inv
+
+-- a body that isn't too long and is not begun is 21, and one that is begun goes by its commands
+pub no-front : (b : List ℕ) → length b ≤ 84 → begunOf b ≡ false → judgeOf b ≡ Refused 21 0
+unfolding judgeOf
+no-front b h e =
+    let other : eqb (getD b 0 0) caret ≡ false = sym (ap (λ (t : Bool). t and eqb (getD b 0 0) caret) (le-leb (length b) 84 h)) ∙ e in
+    when-false (ltb 84 (length b)) _ _ (le-ltb 84 (length b) h) ∙ when-false (eqb (getD b 0 0) caret) _ _ other
+
+pub begun-judged : (b : List ℕ) → begunOf b ≡ true → judgeOf b ≡ commandsOf b
+unfolding judgeOf
+begun-judged b e =
+    let p = and-parts (leb (length b) 84) _ e in
+    when-false (ltb 84 (length b)) _ _ (le-ltb 84 (length b) (leb-true (length b) 84 (p .0))) ∙ when-true (eqb (getD b 0 0) caret) _ _ (p .1)
+
+-- a body that is not begun has no place
+pub not-begun : (b : List ℕ) (s : Standing) → begunOf b ≡ false → Nowhere ≡ ofAccepted (judgeOf b) s
+unfolding judgeOf
+not-begun b s e = go (leb (length b) 84) refl
+  where
+    go : (t : Bool) → leb (length b) 84 ≡ t → Nowhere ≡ ofAccepted (judgeOf b) s
+    go true w = sym (ap (λ (v : Verdict). ofAccepted v s) (no-front b (leb-true (length b) 84 w) e))
+    go false w = sym (ap (λ (v : Verdict). ofAccepted v s) (when-true (ltb 84 (length b)) _ _ (lt-ltb 84 (length b) (leb-false (length b) 84 w))))

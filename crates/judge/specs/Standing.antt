@@ -31,6 +31,12 @@ standAt q (t ∷ ts) m p e o =
     when (eqb p q) (insideOf o)
     (stood (moveOf t m p e o) (λ next m′ e′ o′. standAt q ts m′ next e′ o′))
 
+-- the first of two standings that is somewhere
+abbrev pub orElse : Standing → Standing → Standing
+orElse Nowhere s = s
+orElse Outside s = Outside
+orElse (Inside behind number) s = Inside behind number
+
 -- a refused body has no place
 abbrev pub ofAccepted : Verdict → Standing → Standing
 ofAccepted Finite s = s

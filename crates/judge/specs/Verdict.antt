@@ -4,9 +4,9 @@
 use Prim.Native.Nat.{ℕ}
 use mathlib.Core.List.{List, [], _∷_}
 use mathlib.Core.Bool.{Bool, true, false}
-use lib.Dec.{eqb, ltb}
+use lib.Dec.{eqb, ltb, leb}
 use lib.ListN.{length, getD}
-use Rattle.basis.specs.Choice.{when}
+use Rattle.basis.specs.Choice.{when, _and_}
 use Rattle.program.specs.Bytes.{caret}
 use Rattle.judge.specs.Token.{Tok, tokensOf}
 use Rattle.judge.specs.Structure.{Move, stop, go, moveOf}
@@ -32,6 +32,10 @@ judge (t ∷ ts) m p e o = judged (moveOf t m p e o) (λ next m′ e′ o′. ju
 -- a body's commands; loops don't nest, so one may be open
 abbrev pub commandsOf : List ℕ → Verdict
 commandsOf b = judge (tokensOf b 0) 1 0 false []
+
+-- neither 28 nor 21
+abbrev pub begunOf : List ℕ → Bool
+begunOf b = leb (length b) 84 and eqb (getD b 0 0) caret
 
 -- a body
 unfoldable pub judgeOf : List ℕ → Verdict

@@ -6,7 +6,7 @@ use crate::Verdict;
 use crate::single::turn;
 use program::CARET;
 ghost use mathlib.Core.Path.{_≡_};
-ghost use Rattle.judge.specs.Verdict.{endOf, commandsOf, judgeOf};
+ghost use Rattle.judge.specs.Verdict.{begunOf, endOf, commandsOf, judgeOf};
 ghost use Rattle.judge.specs.Flow.{endedOf, opensOf};
 
 // The bytes of the longest body.
@@ -42,6 +42,19 @@ fn commands(body: &[u8]) -> Verdict
     end(flow)
 }
 
+// Whether a body is neither too long nor begins with anything but a caret.
+pub(crate) fn begun(body: &[u8]) -> bool
+    ensures { λ r. ⌜ r ≡ begunOf (now (body .entry)) ⌝ }
+{
+    if MOST < body.len() {
+        return false;
+    }
+    if body.len() == 0 {
+        return false;
+    }
+    body[0] == CARET
+}
+
 // Whether a body is a program, and endless; or the first refusal in 01's order.
 pub fn judge(body: &[u8]) -> Verdict
     ensures { λ r. ⌜ r ≡ judgeOf (now (body .entry)) ⌝ }
@@ -49,10 +62,7 @@ pub fn judge(body: &[u8]) -> Verdict
     if MOST < body.len() {
         return Verdict::Refused(28, MOST);
     }
-    if body.len() == 0 {
-        return Verdict::Refused(21, 0);
-    }
-    if body[0] != CARET {
+    if !begun(body) {
         return Verdict::Refused(21, 0);
     }
     commands(body)

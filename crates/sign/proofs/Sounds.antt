@@ -9,7 +9,7 @@ use Rattle.basis.proofs.Choices.{and-parts, and-true}
 use Rattle.packet.specs.Reply.{isLast}
 use Rattle.collect.specs.Sound.{soundOf as collectionSound}
 use Rattle.machine.specs.Sound.{soundOf as runSound}
-use Rattle.sign.specs.Sound.{aloneOf, soundOf}
+use Rattle.sign.specs.Sound.{aloneOf, framedOf, soundOf}
 use Rattle.sign.specs.declared.Sign.{Sign}
 
 pub record Parts (s : Sign) : Type 0 where
@@ -29,6 +29,20 @@ sound-parts s e =
 pub parts-sound : (s : Sign) → Parts s → soundOf s ≡ true
 unfolding soundOf
 parts-sound s p = and-true _ _ (p .last) (and-true _ _ (p .run) (and-true _ _ (p .collection) (p .alone)))
+
+-- a record is sound by its frame and its run
+framed-run : (a b c d : Bool) → a and b and c and d ≡ (a and c and d) and b
+framed-run false b c d = refl
+framed-run true true true true = refl
+framed-run true true true false = refl
+framed-run true true false d = refl
+framed-run true false true true = refl
+framed-run true false true false = refl
+framed-run true false false d = refl
+
+pub sound-framed : (s : Sign) → soundOf s ≡ framedOf s and runSound (s .run)
+unfolding soundOf
+sound-framed s = framed-run (isLast (s .last)) (runSound (s .run)) (collectionSound (s .last) (s .collection)) (aloneOf s)
 
 -- Busy collects nothing
 pub busy-none : (s : Sign) → soundOf s ≡ true → (s .run .len ≡ 0 → ⊥) → s .collection .total ≡ 0

@@ -14,5 +14,9 @@ use Rattle.sign.specs.declared.Sign.{Sign}
 abbrev pub aloneOf : Sign → Bool
 aloneOf s = eqb (s .run .len) 0 or eqb (s .collection .total) 0
 
+-- all of it but the run
+abbrev pub framedOf : Sign → Bool
+framedOf s = isLast (s .last) and collectionSound (s .last) (s .collection) and aloneOf s
+
 unfoldable pub soundOf : Sign → Bool
 soundOf s = isLast (s .last) and runSound (s .run) and collectionSound (s .last) (s .collection) and aloneOf s

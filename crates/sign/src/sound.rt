@@ -3,28 +3,35 @@
 use crate::Sign;
 use packet::is_last;
 ghost use mathlib.Core.Path.{_≡_};
-ghost use Rattle.sign.specs.Sound.{soundOf};
+ghost use Rattle.sign.specs.Sound.{framedOf, soundOf};
 
 impl Sign {
-    // Whether the record is sound.
-    pub fn sound(self) -> bool
-        ensures { λ r. ⌜ r ≡ soundOf self ⌝ }
+    // Whether all of the record but its run is sound.
+    pub(crate) fn framed(self) -> bool
+        ensures { λ r. ⌜ r ≡ framedOf self ⌝ }
     {
         let last = self.last;
         let collection = self.collection;
-        let run = self.run;
         if !is_last(last) {
-            return false;
-        }
-        if !run.sound() {
             return false;
         }
         if !collection.sound(last) {
             return false;
         }
-        if run.len == 0 {
+        if self.run.len == 0 {
             return true;
         }
         collection.total == 0
+    }
+
+    // Whether the record is sound.
+    pub fn sound(self) -> bool
+        ensures { λ r. ⌜ r ≡ soundOf self ⌝ }
+    {
+        let run = self.run;
+        if !self.framed() {
+            return false;
+        }
+        run.sound()
     }
 }

@@ -1,4 +1,5 @@
-// One step of the running program, with the record around it. Answers to 01, "One step, and what it costs", and to 16.
+// One step of the running program, with the record around it. Answers to 01, "One step, and what it costs", and to 16; the run's own
+// part of soundness is tested by its step.
 use crate::Sign;
 use crate::Stepped;
 use machine::Answer;
@@ -10,7 +11,7 @@ impl Sign {
     pub fn step(self) -> Stepped
         ensures { λ r. ⌜ r ≡ stepOf self ⌝ }
     {
-        if !self.sound() {
+        if !self.framed() {
             return Stepped {
                 sign: self,
                 answer: Answer::Refused(16),

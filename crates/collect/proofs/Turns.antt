@@ -6,10 +6,11 @@ use mathlib.Core.Path.{_≡_, refl, sym, ap, _∙_}
 use native.Mathlib.Numerals.{add-one}
 use native.Mathlib.Omega.{arith}
 use lib.Dec.{eqb, ltb, leb}
-use lib.ListN.{length, getD, take, drop, drop-of-length-le}
+use lib.ListN.{length, getD, take, drop, length-drop, drop-of-length-le, take-append-drop}
 use lib.Seq.{drop-cons, drop-drop}
-use borrow.Author.Tests.{leb-true, eqb-true}
+use borrow.Author.Tests.{leb-true, le-leb, eqb-true}
 use Rattle.basis.specs.Choice.{when, _and_, _or_}
+use Rattle.basis.proofs.Choices.{when-true}
 use Rattle.machine.specs.Sound.{zerosOf}
 use Rattle.collect.specs.Slots.{ruleOf, oneOf, heldOf, slotsOf}
 
@@ -104,3 +105,43 @@ pub slot-cut : (room : List ℕ) (i len : ℕ) → len ≤ 14
 slot-cut room i len h =
     let e : 14 - len ≡ 14 * i + 14 - (14 * i + len) = omega arith in
     ap (λ (n : ℕ). zerosOf (take n (drop (14 * i + len) room))) e
+
+zeros-append : (a b : List ℕ) → zerosOf (a ++ b) ≡ zerosOf a and zerosOf b
+zeros-append [] b = refl
+zeros-append (x ∷ a) b = go (eqb x 0) (zeros-append a b)
+  where
+    go : (t : Bool) → zerosOf (a ++ b) ≡ zerosOf a and zerosOf b → t and zerosOf (a ++ b) ≡ (t and zerosOf a) and zerosOf b
+    go true e = e
+    go false e = refl
+
+swapped : (a l b : Bool) → a and l and b ≡ l and a and b
+swapped true l b = refl
+swapped false true b = refl
+swapped false false b = refl
+
+-- with nothing collected no position may be held
+rule-none : (p len : ℕ) → ruleOf 0 p len ≡ eqb len 0
+rule-none p len = when-true (leb 0 p) _ _ (le-leb 0 p (omega arith))
+
+-- and the slots obey their rules if lengths and room are zeros
+pub blank-slots : (p : ℕ) (lens room : List ℕ) → length room ≡ 14 * length lens → slotsOf 0 p lens room ≡ zerosOf lens and zerosOf room
+unfolding slotsOf
+blank-slots p [] [] e = refl
+blank-slots p [] (x ∷ room) e = absurd (omega arith)
+blank-slots p (len ∷ lens) room e =
+    let rest : length (drop 14 room) ≡ 14 * length lens = omega (arith, length-drop 14 room) in
+    go (eqb len 0) refl (blank-slots (p + 1) lens (drop 14 room) rest)
+  where
+    go : (t : Bool) → eqb len 0 ≡ t → slotsOf 0 (p + 1) lens (drop 14 room) ≡ zerosOf lens and zerosOf (drop 14 room)
+        → ruleOf 0 p len and zerosOf (take (14 - len) (drop len room)) and slotsOf 0 (p + 1) lens (drop 14 room)
+        ≡ (eqb len 0 and zerosOf lens) and zerosOf room
+    go false w ih =
+        ap (λ (t : Bool). t and zerosOf (take (14 - len) (drop len room)) and slotsOf 0 (p + 1) lens (drop 14 room)) (rule-none p len ∙ w)
+        ∙ sym (ap (λ (t : Bool). (t and zerosOf lens) and zerosOf room) w)
+    go true w ih =
+        ap (λ (t : Bool). t and zerosOf (take (14 - len) (drop len room)) and slotsOf 0 (p + 1) lens (drop 14 room)) (rule-none p len ∙ w)
+        ∙ ap (λ (n : ℕ). zerosOf (take (14 - n) (drop n room)) and slotsOf 0 (p + 1) lens (drop 14 room)) (eqb-true len 0 w)
+        ∙ ap (λ (t : Bool). zerosOf (take 14 room) and t) ih
+        ∙ swapped (zerosOf (take 14 room)) (zerosOf lens) (zerosOf (drop 14 room))
+        ∙ ap (λ (t : Bool). zerosOf lens and t) (sym (zeros-append (take 14 room) (drop 14 room)) ∙ ap zerosOf (take-append-drop 14 room))
+        ∙ sym (ap (λ (t : Bool). (t and zerosOf lens) and zerosOf room) w)

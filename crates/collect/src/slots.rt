@@ -67,6 +67,18 @@ impl Collection {
         true
     }
 
+    // The same where nothing is collected: no lengths, and zeros all over the room.
+    fn blank(self) -> bool
+        ensures { λ r. ⌜ r ≡ slotsOf 0 0 (self .lens) (self .room) ⌝ }
+    {
+        let lens = self.lens;
+        let room = self.room;
+        if !zeros(&lens) {
+            return false;
+        }
+        zeros(&room)
+    }
+
     // Whether the collection is sound beside this last completed ID.
     pub fn sound(self, last: u8) -> bool
         ensures { λ r. ⌜ r ≡ soundOf last self ⌝ }
@@ -78,7 +90,7 @@ impl Collection {
             if id != 0 {
                 return false;
             }
-            return self.slots();
+            return self.blank();
         }
         if 0x3f < id {
             return false;

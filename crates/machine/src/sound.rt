@@ -6,20 +6,28 @@ use crate::Run;
 use judge::Standing;
 use judge::stand;
 ghost use mathlib.Core.Path.{_≡_};
+ghost use lib.Dec.{eqb};
+ghost use Rattle.basis.specs.Choice.{_and_};
 ghost use Rattle.machine.specs.Sound.{zerosOf, restsOf, heldOf, soundOf};
+
+// The greater of two bytes, which is 0 only if both are.
+fn greater(one: u8, other: u8) -> u8
+    ensures { λ r. ⌜ eqb r 0 ≡ (eqb one 0 and eqb other 0) ⌝ }
+{
+    if one < other { other } else { one }
+}
 
 // Whether all bytes are 0.
 pub fn zeros(bytes: &[u8]) -> bool
     ensures { λ r. ⌜ r ≡ zerosOf (now (bytes .entry)) ⌝ }
 {
+    let mut most: u8 = 0;
     let mut i = 0;
     while i < bytes.len() {
-        if bytes[i] != 0 {
-            return false;
-        }
+        most = greater(most, bytes[i]);
         i += 1;
     }
-    true
+    most == 0
 }
 
 // Whether places and count are 0, as in a Ready run.

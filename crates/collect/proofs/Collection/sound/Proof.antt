@@ -1,5 +1,7 @@
 -- `sound` tests part after part; the first that fails decides.
-use mathlib.Core.Path.{sym}
+use Prim.Native.Nat.{ℕ}
+use mathlib.Core.Path.{_≡_, sym, ap, _∙_}
+use Rattle.collect.specs.Slots.{slotsOf}
 use Rattle.basis.proofs.Tests.{tests}
 use Rattle.collect.specs.Sound.{soundOf}
 use borrow.Author.Needs.{needs}
@@ -10,12 +12,15 @@ returns : tie.Need-returns
 unfolding soundOf
 returns c = search tests
 
-slots-requires : tie.Need-slots-requires
-slots-requires c κs = search needs
+blank-requires : tie.Need-blank-requires
+blank-requires c κs = search needs
 
 returns-2 : tie.Need-returns-2
 unfolding soundOf
-returns-2 c = search tests
+returns-2 c =
+    let a = c .before .before .before .before .args .self in
+    let none : a .total ≡ 0 = c .before .before .if1 .taken in
+    search (tests, c .blank .ensures ∙ ap (λ (t : ℕ). slotsOf t 0 (a .lens) (a .room)) (sym none))
 
 returns-3 : tie.Need-returns-3
 unfolding soundOf
@@ -43,19 +48,19 @@ returns-7 : tie.Need-returns-7
 unfolding soundOf
 returns-7 c = search (tests, ← (c .before .before .held .ensures))
 
-slots-requires-2 : tie.Need-slots-requires-2
-slots-requires-2 c κs = search needs
+slots-requires : tie.Need-slots-requires
+slots-requires c κs = search needs
 
 returns-8 : tie.Need-returns-8
 unfolding soundOf
-returns-8 c = search (tests, ← (c .before .before .before .held .ensures), c .slots2 .ensures)
+returns-8 c = search (tests, ← (c .before .before .before .held .ensures), c .slots .ensures)
 
 pub sound-spec : {M : Type 1} → statement M
 sound-spec =
     tie.close
     (tie.spec
     returns
-    slots-requires
+    blank-requires
     returns-2
     returns-3
     returns-4
@@ -64,5 +69,5 @@ sound-spec =
     returns-6
     cast-if7
     returns-7
-    slots-requires-2
+    slots-requires
     returns-8)

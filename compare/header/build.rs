@@ -1,5 +1,5 @@
 //! Links the archive `libcabi.a` from the directory in YD_ARCHIVE_DIR, or from the place where it is built by default.
-//! A relative directory is taken from this crate's own.
+//! A relative directory is taken from this crate's own. The crate is told the path, as it measures the archive's size.
 
 use std::env;
 use std::path::{Path, PathBuf};
@@ -14,8 +14,7 @@ fn main() {
     }
     println!("cargo:rerun-if-env-changed=YD_ARCHIVE_DIR");
     println!("cargo:rerun-if-changed={}", archive.display());
+    println!("cargo:rustc-env=YD_ARCHIVE={}", archive.display());
     println!("cargo:rustc-link-search=native={}", directory.display());
     println!("cargo:rustc-link-lib=static=cabi");
-    // An archive without the standard library brings a panic handler of its own beside the one that is here already.
-    println!("cargo:rustc-link-arg=-Wl,--allow-multiple-definition");
 }

@@ -1,5 +1,6 @@
 pub mod Sums
 pub mod Reckons
+pub mod Passes
 pub mod Wholes
 pub mod Forecasts
 pub mod Small

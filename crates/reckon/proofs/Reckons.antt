@@ -1,11 +1,11 @@
 -- The reckoning's code, command by command: what is added, where a stride stops, goes on and ends, and what a turn takes.
-use Prim.Native.Nat.{ℕ, _+_, _-_, _≤_, _<_}
+use Prim.Native.Nat.{ℕ, _+_, _-_, _≤_, _<_, min}
 use mathlib.Core.List.{List}
 use mathlib.Core.Bool.{true, false}
 use mathlib.Core.Path.{_≡_, refl, sym, ap, _∙_}
 use native.Mathlib.Omega.{arith}
 use lib.ListN.{length, take, drop}
-use Rattle.measure.specs.Width.{widthOf}
+use Rattle.measure.specs.Width.{widthOf, widest}
 use Rattle.program.specs.Command.{readOf}
 use Rattle.program.specs.declared.Kind.{Kind}
 use Rattle.program.specs.declared.Kind.the-variants.{II, IA, IB, S, L, E, F, R, XS, XF, P, Scans, W, XD, XB, Y}
@@ -22,11 +22,15 @@ use Rattle.judge.proofs.Moves.{next-is}
 use Rattle.judge.proofs.Tokens.{tokens-first, tokens-none}
 use Rattle.course.specs.Steps.{saysOf}
 use Rattle.judge.proofs.Values.{get-loop}
-use Rattle.reckon.specs.Reckon.{setsPart, addedOf, plainOf, strideOf, passOf, turnOf, loopedOf}
+use Rattle.reckon.specs.Reckon.{setsPart, addedOf, plainOf, strideOf, passOf, laterOf, turnOf, loopedOf}
 use Rattle.reckon.specs.Totals.{noneOf, costOf, plusOf, timesOf}
 use Rattle.reckon.specs.declared.reckon.Reckoned.{Reckoned}
 use Rattle.reckon.specs.declared.totals.Totals.{Totals}
 use Rattle.machine.proofs.Commands.{says-is}
+
+-- a text of no bytes has no width
+pub columns-none : (b : List ℕ) (p n : ℕ) → n ≡ 0 → 0 ≡ min (widthOf (take n (drop p b))) widest
+columns-none b p n e = ap (λ (k : ℕ). min (widthOf (take k (drop p b))) widest) (sym e)
 
 -- only a plain command changes the settings
 sets-by : (k : Kind) (b : List ℕ) (p : ℕ) (c : Command) (σ : Settings) → c .kind ≡ k
@@ -126,19 +130,22 @@ pass-none b s x n q ex e = ap (λ (t : Tok). addedOf t x) (sym (ap (tokOf b (x .
 pub pass-good : (b : List ℕ) (s x y : Reckoned) → x ≡ strideOf (tokensOf b (s .place)) s → y ≡ addedOf (get b (x .place)) x → y ≡ passOf b s
 pass-good b s x y ex ey = ey ∙ ap (λ (z : Reckoned). addedOf (get b (z .place)) z) ex
 
--- a loop, from its two passes
-pub looped-is : (b : List ℕ) (n : ℕ) (s f g : Reckoned) (u v z : Totals) → f ≡ passOf b s → z ≡ noneOf
-    → g ≡ passOf b (record { place = s .place; settings = f .settings; totals = z })
-    → v ≡ timesOf (n - 1) (g .totals)
-    → u ≡ plusOf (f .totals) v
+-- a loop's first pass, reckoned from these totals
+abbrev pub startOf : Reckoned → Totals → Reckoned
+startOf s t = record { place = s .place; settings = s .settings; totals = t }
+
+-- a loop, from its first pass and what each later one costs
+pub looped-is : (b : List ℕ) (n : ℕ) (s f : Reckoned) (z m o v u : Totals) → z ≡ noneOf → f ≡ passOf b (startOf s z) → m ≡ laterOf b (startOf s z)
+    → o ≡ plusOf (s .totals) (f .totals)
+    → v ≡ timesOf (n - 1) m
+    → u ≡ plusOf o v
     → _≡_ {A = Reckoned} (record { place = f .place; settings = f .settings; totals = u }) (loopedOf b n s)
-looped-is b n s f g u v z ef ez eg ev eu =
-    let second : g ≡ passOf b (record { place = s .place; settings = f .settings; totals = noneOf }) =
-    eg ∙ ap (λ (t : Totals). passOf b (record { place = s .place; settings = f .settings; totals = t })) ez in
-    let sum : u ≡ plusOf (f .totals) (timesOf (n - 1) (passOf b (record { place = s .place; settings = f .settings; totals = noneOf }) .totals)) =
-    eu ∙ ap (plusOf (f .totals)) (ev ∙ ap (λ (x : Reckoned). timesOf (n - 1) (x .totals)) second) in
+looped-is b n s f z m o v u ez ef em eo ev eu =
+    let sum : u ≡ plusOf (plusOf (s .totals) (f .totals)) (timesOf (n - 1) (laterOf b (startOf s z))) =
+    eu ∙ ap (λ (t : Totals). plusOf t v) eo ∙ ap (plusOf (plusOf (s .totals) (f .totals))) (ev ∙ ap (timesOf (n - 1)) em) in
     ap (λ (t : Totals). record { place = f .place; settings = f .settings; totals = t }) sum
-    ∙ ap (λ (x : Reckoned). record { place = x .place; settings = x .settings; totals = plusOf (x .totals) (timesOf (n - 1) (passOf b (record { place = s .place; settings = x .settings; totals = noneOf }) .totals)) }) ef
+    ∙ ap (λ (x : Reckoned). record { place = x .place; settings = x .settings; totals = plusOf (plusOf (s .totals) (x .totals)) (timesOf (n - 1) (laterOf b (startOf s z))) }) ef
+    ∙ ap (λ (t : Totals). record { place = passOf b (startOf s t) .place; settings = passOf b (startOf s t) .settings; totals = plusOf (plusOf (s .totals) (passOf b (startOf s t) .totals)) (timesOf (n - 1) (laterOf b (startOf s t))) }) ez
 
 module _ (b : List ℕ) (s : Reckoned) (c : Command) (e : readOf b (s .place) ≡ Good c) where
   -- a turn goes by the role of the command at its place

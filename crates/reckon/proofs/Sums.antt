@@ -43,27 +43,28 @@ capped-times y (suc m) =
 field-one : (x c p : ℕ) → sumOf (sumOf x c) (capped p) ≡ sumOf x (capped (c + p))
 field-one x c p = omega arith
 
-left : (a b : ℕ) → sumOf (capped a) b ≡ sumOf a b
-left a b = omega arith
-
 right : (a b : ℕ) → sumOf a (capped b) ≡ sumOf a b
 right a b = omega arith
 
 both : (a b : ℕ) → sumOf (capped a) (capped b) ≡ sumOf a b
 both a b = omega arith
 
--- a loop: its `L`, the first pass and `E`, the second pass and `E` m times, and what follows
-field-loop : (x l p e q m r : ℕ) → sumOf (sumOf (sumOf (sumOf (sumOf x l) (capped p)) e) (timesOver (sumOf (sumOf 0 (capped q)) e) m)) (capped r)
+-- a pass and its `E`, from nothing
+pass : (q e : ℕ) → sumOf (sumOf 0 (capped q)) e ≡ capped (q + e)
+pass q e = omega arith
+
+-- a loop: its `L`, the first pass and `E` from nothing, the second pass and `E` from nothing m times, and what follows
+field-loop : (x l p e q m r : ℕ)
+    → sumOf (sumOf (sumOf (sumOf x l) (sumOf (sumOf 0 (capped p)) e)) (timesOver (sumOf (sumOf 0 (capped q)) e) m)) (capped r)
     ≡ sumOf x (capped (l + (p + e + m * (q + e) + r)))
 field-loop x l p e q m r =
-    let pass : sumOf (sumOf 0 (capped q)) e ≡ capped (q + e) = omega arith in
-    let many : timesOver (sumOf (sumOf 0 (capped q)) e) m ≡ capped ((q + e) * m) = ap (λ (n : ℕ). capped (n * m)) pass ∙ capped-times (q + e) m in
-    let sum : x + l + p + e + (q + e) * m + r ≡ x + (l + (p + e + m * (q + e) + r)) = omega arith in
-    ap (λ (n : ℕ). sumOf (sumOf (sumOf n e) (timesOver (sumOf (sumOf 0 (capped q)) e) m)) (capped r)) (both (x + l) p)
-    ∙ ap (λ (n : ℕ). sumOf (sumOf n (timesOver (sumOf (sumOf 0 (capped q)) e) m)) (capped r)) (left (x + l + p) e)
-    ∙ ap (λ (n : ℕ). sumOf (sumOf (capped (x + l + p + e)) n) (capped r)) many
-    ∙ ap (λ (n : ℕ). sumOf n (capped r)) (both (x + l + p + e) ((q + e) * m))
-    ∙ both (x + l + p + e + (q + e) * m) r
+    let many : timesOver (sumOf (sumOf 0 (capped q)) e) m ≡ capped ((q + e) * m) = ap (λ (n : ℕ). capped (n * m)) (pass q e) ∙ capped-times (q + e) m in
+    let sum : x + l + (p + e) + (q + e) * m + r ≡ x + (l + (p + e + m * (q + e) + r)) = omega arith in
+    ap (λ (n : ℕ). sumOf (sumOf (sumOf (sumOf x l) n) (timesOver (sumOf (sumOf 0 (capped q)) e) m)) (capped r)) (pass p e)
+    ∙ ap (λ (n : ℕ). sumOf (sumOf n (timesOver (sumOf (sumOf 0 (capped q)) e) m)) (capped r)) (both (x + l) (p + e))
+    ∙ ap (λ (n : ℕ). sumOf (sumOf (capped (x + l + (p + e))) n) (capped r)) many
+    ∙ ap (λ (n : ℕ). sumOf n (capped r)) (both (x + l + (p + e)) ((q + e) * m))
+    ∙ both (x + l + (p + e) + (q + e) * m) r
     ∙ ap capped sum
     ∙ sym (right x (l + (p + e + m * (q + e) + r)))
 
@@ -77,7 +78,7 @@ plus-none t w = totals-are _ _ _ (t .steps .0) (t .scans .0) (t .millis .0) (ome
 
 pub plus-loop : (t : Totals) (m l p e q r l2 p2 e2 q2 r2 l3 p3 e3 q3 r3 : ℕ)
     → plusOf
-    (plusOf (plusOf (plusOf (plusOf t (totalsOf l l2 l3)) (totalsOf (capped p) (capped p2) (capped p3))) (totalsOf e e2 e3))
+    (plusOf (plusOf (plusOf t (totalsOf l l2 l3)) (plusOf (plusOf noneOf (totalsOf (capped p) (capped p2) (capped p3))) (totalsOf e e2 e3)))
     (timesOf m (plusOf (plusOf noneOf (totalsOf (capped q) (capped q2) (capped q3))) (totalsOf e e2 e3))))
     (totalsOf (capped r) (capped r2) (capped r3))
     ≡ plusOf t

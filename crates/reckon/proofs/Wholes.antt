@@ -103,24 +103,24 @@ module _ (b : List ℕ) (whole : Totals) (last : Settings) where
       let σ = s .settings in
       let τ = leavesOf body σ in
       let s1 = addedOf (good (rep (suc m) z)) s in
+      let s0 : Reckoned = record { place = s1 .place; settings = σ; totals = noneOf } in
       let s2 : Reckoned = record { place = s1 .place; settings = τ; totals = noneOf } in
-      let first = addedOf (good close) (behindBlock body s1) in
+      let first = addedOf (good close) (behindBlock body s0) in
       let later = addedOf (good close) (behindBlock body s2) in
-      let one-pass : passOf b s1 ≡ first =
-      pass-block b body (flat t []) s1 (d .0) (plus-within (s .totals) (costOf (saysOf (rep (suc m) z) σ))) (h .1 .1) in
+      let one-pass : passOf b s0 ≡ first = pass-block b body (flat t []) s0 (d .0) (omega arith) (h .1 .1) in
       let two-pass : passOf b s2 ≡ later = pass-block b body (flat t []) s2 (d .0) (omega arith) (h .1 .1) in
       let less : suc m - 1 ≡ m = omega arith in
-      let total = plusOf (first .totals) (timesOf m (later .totals)) in
-      let is : loopedOf b (suc m) s1 ≡ record { place = first .place; settings = τ; totals = total } =
-      ap (λ (x : Reckoned). record { place = x .place; settings = x .settings; totals = plusOf (x .totals) (timesOf (suc m - 1) (passOf b (record { place = s1 .place; settings = x .settings; totals = noneOf }) .totals)) }) one-pass
-      ∙ ap (λ (x : Reckoned). record { place = first .place; settings = τ; totals = plusOf (first .totals) (timesOf (suc m - 1) (x .totals)) }) two-pass
-      ∙ ap (λ (n : ℕ). record { place = first .place; settings = τ; totals = plusOf (first .totals) (timesOf n (later .totals)) }) less in
+      let once = plusOf (s1 .totals) (first .totals) in
+      let is : loopedOf b (suc m) s1 ≡ record { place = first .place; settings = τ; totals = plusOf once (timesOf m (later .totals)) } =
+      ap (λ (x : Reckoned). record { place = x .place; settings = x .settings; totals = plusOf (plusOf (s1 .totals) (x .totals)) (timesOf (suc m - 1) (passOf b (record { place = s1 .place; settings = x .settings; totals = noneOf }) .totals)) }) one-pass
+      ∙ ap (λ (x : Reckoned). record { place = first .place; settings = τ; totals = plusOf once (timesOf (suc m - 1) (x .totals)) }) two-pass
+      ∙ ap (λ (n : ℕ). record { place = first .place; settings = τ; totals = plusOf once (timesOf n (later .totals)) }) less in
       subst (λ (x : Reckoned). (Left b whole last x) × (s .place < x .place)) (sym is) (
         record {
           rest = t;
           stands = at-past (get b) (length b) body (close ∷ flat t []) (s .place + z) (h .1 .1) .1 .1;
           deep = d .1;
-          within = plus-within (first .totals) (timesOf m (later .totals));
+          within = plus-within once (timesOf m (later .totals));
           sums = plus-loop (s .totals) m 1 (priceOf ones body σ) 1 (priceOf ones body τ) (priceOf ones t τ) 0 (priceOf scans body σ) 0
               (priceOf scans body τ)
               (priceOf scans t τ)

@@ -2,7 +2,9 @@
 use Prim.Native.Nat.{ℕ, _+_, _-_}
 use mathlib.Core.List.{List, [], _∷_}
 use mathlib.Core.Bool.{Bool, true, false}
+use lib.Dec.{eqb}
 use lib.ListN.{length}
+use Rattle.basis.specs.Choice.{_and_}
 use Rattle.perform.specs.declared.settings.Settings.{Settings}
 use Rattle.judge.specs.Token.{Part, act, rep, close, forever, again, Tok, good, bad, sizeOf, get, tokensOf}
 use Rattle.judge.specs.declared.Role.{Role}
@@ -10,6 +12,7 @@ use Rattle.judge.specs.declared.Role.the-variants.{Plain, Repeat, Close, Foreve
 use Rattle.course.specs.Steps.{saysOf, setsOf}
 use Rattle.reckon.specs.Totals.{noneOf, costOf, plusOf, timesOf}
 use Rattle.reckon.specs.declared.reckon.Reckoned.{Reckoned}
+use Rattle.reckon.specs.declared.totals.Totals.{Totals}
 
 -- the settings behind a command
 abbrev pub setsPart : Part → Settings → Settings
@@ -51,12 +54,24 @@ strideOf (bad n q ∷ ts) s = s
 abbrev pub passOf : List ℕ → Reckoned → Reckoned
 passOf b s = addedOf (get b (strideOf (tokensOf b (s .place)) s .place)) (strideOf (tokensOf b (s .place)) s)
 
--- a loop of n passes behind its `L`: the first, and the second n - 1 times over
+-- the same pace and the same scans per shift
+abbrev pub alikeOf : Settings → Settings → Bool
+alikeOf σ τ = eqb (σ .pace) (τ .pace) and eqb (σ .scans) (τ .scans)
+
+-- what each later pass of a loop comes to, begun where the first began but at the settings that it left
+abbrev pub laterOf : List ℕ → Reckoned → Totals
+laterOf b s = passOf b (record { place = s .place; settings = passOf b s .settings; totals = s .totals }) .totals
+
+-- a loop of n passes behind its `L`, each reckoned from nothing: the first, and the second n - 1 times over
 abbrev pub loopedOf : List ℕ → ℕ → Reckoned → Reckoned
 loopedOf b n s =
-    let first = passOf b s in
-    let again = passOf b (record { place = s .place; settings = first .settings; totals = noneOf }) in
-    record { place = first .place; settings = first .settings; totals = plusOf (first .totals) (timesOf (n - 1) (again .totals)) }
+    let start : Reckoned = record { place = s .place; settings = s .settings; totals = noneOf } in
+    let first = passOf b start in
+    record {
+      place = first .place;
+      settings = first .settings;
+      totals = plusOf (plusOf (s .totals) (first .totals)) (timesOf (n - 1) (laterOf b start));
+    }
 
 -- a plain command, or a whole loop; nothing else stands between them in a program that ends
 abbrev pub turnOf : List ℕ → Tok → Reckoned → Reckoned

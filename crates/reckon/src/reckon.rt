@@ -13,8 +13,9 @@ use program::Kind;
 use program::Reading;
 use program::read_command;
 ghost use mathlib.Core.Path.{_≡_};
-ghost use Prim.Native.Nat.{_≤_};
-ghost use lib.ListN.{length};
+ghost use Prim.Native.Nat.{_≤_, min};
+ghost use lib.ListN.{length, take, drop};
+ghost use Rattle.measure.specs.Width.{widthOf, widest};
 ghost use Rattle.program.specs.Command.{readOf};
 ghost use Rattle.program.specs.declared.Reading.the-variants.{Good};
 ghost use Rattle.judge.specs.Token.{get, tokensOf};
@@ -22,13 +23,23 @@ ghost use Rattle.judge.specs.Verdict.{judgeOf};
 ghost use Rattle.judge.specs.declared.Verdict.the-variants.{Finite};
 ghost use Rattle.judge.specs.Token.{roleOf};
 ghost use Rattle.reckon.specs.Forecast.{forecastOf, pricedOf};
-ghost use Rattle.reckon.specs.Reckon.{addedOf, plainOf, strideOf, passOf, loopedOf, turnOf};
+ghost use Rattle.reckon.specs.Reckon.{addedOf, plainOf, strideOf, passOf, alikeOf, laterOf, loopedOf, turnOf};
 
 // How far a program is reckoned: the place, the settings there, and the totals so far.
 pub struct Reckoned {
     pub place: usize,
     pub settings: Settings,
     pub totals: Totals,
+}
+
+// The width of the text of so many bytes at a place of a body, which is only counted where there is a text.
+fn columns(body: &[u8], place: usize, len: usize) -> usize
+    ensures { λ r. ⌜ r ≡ min (widthOf (take len (drop place (now (body .entry))))) widest ⌝ }
+{
+    if len == 0 {
+        return 0;
+    }
+    text_width(body, place, len)
 }
 
 // The command at the place, added.
@@ -42,7 +53,7 @@ fn added(body: &[u8], command: Command, at: Reckoned) -> Reckoned
     let count = command.len;
     let settings = at.settings;
     let totals = at.totals;
-    let wide = text_width(body, text, count);
+    let wide = columns(body, text, count);
     let performed = perform(kind, number, text, count, wide, settings);
     Reckoned {
         place: command.next,
@@ -101,25 +112,49 @@ fn pass(body: &[u8], from: Reckoned) -> Reckoned
     }
 }
 
-// A loop of so many passes, behind its `L`: read once, and once more for all later passes.
+// Whether two settings agree in pace and scans per shift, which is all that a price goes by.
+fn alike(one: Settings, other: Settings) -> bool
+    ensures { λ r. ⌜ r ≡ alikeOf one other ⌝ }
+{
+    if one.pace == other.pace {
+        return one.scans == other.scans;
+    }
+    false
+}
+
+// What each later pass of a loop costs: as much as the first where that left pace and scans as they were, else it is read again.
+fn later(body: &[u8], start: Reckoned, first: Reckoned) -> Totals
+    requires { ⌜ (length (now body) ≤ 84) × (first ≡ passOf (now body) start) ⌝ }
+    ensures { λ r. ⌜ r ≡ laterOf (now (body .entry)) start ⌝ }
+{
+    let before = start.settings;
+    let behind = first.settings;
+    if alike(before, behind) {
+        return first.totals;
+    }
+    let mut second = start;
+    second.settings = behind;
+    let again = pass(body, second);
+    again.totals
+}
+
+// A loop of so many passes, behind its `L`: read once, and where its settings change once more for all later passes.
 fn looped(body: &[u8], number: u8, from: Reckoned) -> Reckoned
     requires { ⌜ (length (now body) ≤ 84) × (1 ≤ number) ⌝ }
     ensures { λ r. ⌜ r ≡ loopedOf (now (body .entry)) number from ⌝ }
 {
-    let first = pass(body, from);
+    let before = from.totals;
+    let mut start = from;
+    start.totals = Totals::none();
+    let first = pass(body, start);
     let settings = first.settings;
-    let totals = first.totals;
-    let second = Reckoned {
-        place: from.place,
-        settings,
-        totals: Totals::none(),
-    };
-    let again = pass(body, second);
-    let later = again.totals;
+    let once = first.totals;
+    let again = later(body, start, first);
+    let read = before.plus(once);
     Reckoned {
         place: first.place,
         settings,
-        totals: totals.plus(later.times(number - 1)),
+        totals: read.plus(again.times(number - 1)),
     }
 }
 

@@ -1,4 +1,5 @@
 -- How the code holds where judging stands: at most one loop is open, so three cases carry room, end and open loops.
+-- Contracts of private functions cite it, and no public one does.
 use Prim.Native.Nat.{ℕ}
 use mathlib.Core.List.{List, [], _∷_}
 use mathlib.Core.Bool.{Bool, true, false}

@@ -1,4 +1,5 @@
 -- What a command makes of a run's record, field by field: the step of specs/Step written for a record with one open loop.
+-- Contracts of private functions cite it, and no public one does.
 use Prim.Native.Nat.{ℕ, _-_}
 use mathlib.Core.List.{List, [], _∷_}
 use mathlib.Core.Bool.{Bool, true, false}

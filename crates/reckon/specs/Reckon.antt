@@ -1,4 +1,5 @@
 -- Reckoning a program command by command: plain commands one behind the other, and a loop by two passes.
+-- Contracts of private functions cite it, and no public one does.
 use Prim.Native.Nat.{ℕ, _+_, _-_}
 use mathlib.Core.List.{List, [], _∷_}
 use mathlib.Core.Bool.{Bool, true, false}

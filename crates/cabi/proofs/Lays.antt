@@ -1,5 +1,5 @@
 -- Words laid one behind the other, and a copy of an image over another.
-use Prim.Native.Nat.{ℕ, _+_, _*_, _-_, _≤_, _<_}
+use Prim.Native.Nat.{ℕ, _+_, _*_, _-_, _/_, _%_, _≤_, _<_}
 use mathlib.Core.List.{List, [], _∷_, _++_}
 use mathlib.Core.Path.{_≡_, refl, sym, ap, _∙_, subst}
 use native.Mathlib.Omega.{arith}
@@ -33,7 +33,7 @@ use Rattle.sign.specs.declared.Outcome.the-variants.{Query, Reset, Repeat, Stor
 use Rattle.sign.proofs.Outcome.{the-type}
 use Rattle.image.specs.Layout.{imageOf, recordOf}
 use Rattle.image.proofs.Copies.{byte-of}
-use Rattle.cabi.specs.Words.{wordOf, wordsOf, wroteOf, Tells}
+use Rattle.cabi.specs.Words.{wordOf, wordsOf, resultOf, wroteOf, Tells}
 use Rattle.cabi.specs.Calls.{imageRow, answerRow, firstOr, lent, toldIn, flagOf, keptOf, outcomeOf, receivedBytes, receiveNo, receiveImage, receiveAnswer, resetNo, resetImage, ranOf, stepWords, stepNo, stepImage, stepAnswer, imageRows}
 
 -- a word is four bytes
@@ -41,6 +41,20 @@ pub words-length : (ws : List ℕ) → length (wordsOf ws) ≡ 4 * length ws
 unfolding wordsOf
 words-length [] = refl
 words-length (x ∷ ws) = omega (arith, words-length ws)
+
+-- a number below 2^32 reads back from its word
+pub word-back : (x : ℕ) → x < 4294967296 → x % 256 + 256 * (x / 256 % 256) + 65536 * (x / 65536 % 256) + 16777216 * (x / 16777216 % 256) ≡ x
+word-back x h =
+    let second : x / 256 / 256 ≡ x / 65536 = omega arith in
+    let third : x / 65536 / 256 ≡ x / 16777216 = omega arith in
+    let last : x / 16777216 % 256 ≡ x / 16777216 = omega arith in
+    let upper : 256 * (x / 16777216) + x / 65536 % 256 ≡ x / 65536 = omega arith in
+    let middle : 256 * (x / 65536) + x / 256 % 256 ≡ x / 256 = omega arith in
+    omega arith
+
+-- a number for no below 256 and a value below 2^24 read back from their result
+pub result-back : (n v : ℕ) → n < 256 → v < 16777216 → (resultOf n v % 256 ≡ n) × (resultOf n v / 256 ≡ v)
+result-back n v hn hv = (omega arith, omega arith)
 
 -- words in a row, cut anywhere
 pub words-append : (us ws : List ℕ) → wordsOf (us ++ ws) ≡ wordsOf us ++ wordsOf ws

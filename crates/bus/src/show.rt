@@ -4,12 +4,12 @@ use judge::Verdict;
 use machine::Answer;
 use packet::Written;
 use perform::Performed;
+use repeater::repeat;
 use sign::Cleared;
 use sign::Outcome;
 use sign::Received;
 use sign::Sign;
 use sign::Stepped;
-use sign::repeat;
 
 // A word, and a number behind it.
 fn field(word: &[u8], n: usize) {

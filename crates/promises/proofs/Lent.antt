@@ -7,9 +7,9 @@ use denote.Triple.Clauses
 use borrow.Fn.World
 use borrow.Fn.Kinds as K
 use Rattle.promises.proofs.Outcome.{one}
-use Rattle.sign.proofs.shows as sign-shows
-use Rattle.sign.proofs.shows.Kinds as sign-shows-kinds
-use Rattle.sign.proofs.shows.Reads as sign-shows-reads
+use Rattle.repeater.proofs.shows as repeater-shows
+use Rattle.repeater.proofs.shows.Kinds as repeater-shows-kinds
+use Rattle.repeater.proofs.shows.Reads as repeater-shows-reads
 use Rattle.image.proofs.record_of as image-record-of
 use Rattle.image.proofs.record_of.Kinds as image-record-of-kinds
 use Rattle.image.proofs.record_of.Reads as image-record-of-reads
@@ -65,10 +65,10 @@ use Rattle.cabi.proofs.yd_repeat as cabi-yd-repeat
 use Rattle.cabi.proofs.yd_repeat.Kinds as cabi-yd-repeat-kinds
 use Rattle.cabi.proofs.yd_repeat.Reads as cabi-yd-repeat-reads
 
-pub one-sign-shows : (κs : Lifetimes.Lfts 1) (a : World.ArgsD sign-shows.signature κs) (r r′ : World.ResD sign-shows.signature κs)
-    (s s′ : Clauses.AtExit (K.endedOf 1 sign-shows-kinds.ps sign-shows-kinds.r) κs) → sign-shows-reads.Post κs a r s → sign-shows-reads.Post κs a r′ s′
+pub one-repeater-shows : (κs : Lifetimes.Lfts 1) (a : World.ArgsD repeater-shows.signature κs) (r r′ : World.ResD repeater-shows.signature κs)
+    (s s′ : Clauses.AtExit (K.endedOf 1 repeater-shows-kinds.ps repeater-shows-kinds.r) κs) → repeater-shows-reads.Post κs a r s → repeater-shows-reads.Post κs a r′ s′
     → r ≡ r′
-one-sign-shows κs a r r′ s s′ h h′ = one h h′
+one-repeater-shows κs a r r′ s s′ h h′ = one h h′
 
 pub one-image-record-of : (κs : Lifetimes.Lfts 0) (a : World.ArgsD image-record-of.signature κs) (r r′ : World.ResD image-record-of.signature κs)
     (s s′ : Clauses.AtExit (K.endedOf 0 image-record-of-kinds.ps image-record-of-kinds.r) κs) → image-record-of-reads.Post κs a r s → image-record-of-reads.Post κs a r′ s′

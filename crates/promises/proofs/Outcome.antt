@@ -168,9 +168,9 @@ use Rattle.collect.proofs.Collection.stored.Reads as collect-Collection-stored-
 use Rattle.collect.proofs.Collection.sound as collect-Collection-sound
 use Rattle.collect.proofs.Collection.sound.Kinds as collect-Collection-sound-kinds
 use Rattle.collect.proofs.Collection.sound.Reads as collect-Collection-sound-reads
-use Rattle.sign.proofs.repeat as sign-repeat
-use Rattle.sign.proofs.repeat.Kinds as sign-repeat-kinds
-use Rattle.sign.proofs.repeat.Reads as sign-repeat-reads
+use Rattle.repeater.proofs.repeat as repeater-repeat
+use Rattle.repeater.proofs.repeat.Kinds as repeater-repeat-kinds
+use Rattle.repeater.proofs.repeat.Reads as repeater-repeat-reads
 
 -- two that are equal to a third are equal: all that is needed where a contract is an equation
 pub one : {A : Type 0} {x y z : A} → x ≡ z → y ≡ z → x ≡ y
@@ -399,7 +399,7 @@ pub one-collect-Collection-sound : (κs : Lifetimes.Lfts 0) (a : World.ArgsD col
     (s s′ : Clauses.AtExit (K.endedOf 0 collect-Collection-sound-kinds.ps collect-Collection-sound-kinds.r) κs) → collect-Collection-sound-reads.Post κs a r s → collect-Collection-sound-reads.Post κs a r′ s′ → r ≡ r′
 one-collect-Collection-sound κs a r r′ s s′ h h′ = one h h′
 
-pub one-sign-repeat : (κs : Lifetimes.Lfts 1) (a : World.ArgsD sign-repeat.signature κs) (r r′ : World.ResD sign-repeat.signature κs)
-    (s s′ : Clauses.AtExit (K.endedOf 1 sign-repeat-kinds.ps sign-repeat-kinds.r) κs) → sign-repeat-reads.Post κs a r s → sign-repeat-reads.Post κs a r′ s′
+pub one-repeater-repeat : (κs : Lifetimes.Lfts 1) (a : World.ArgsD repeater-repeat.signature κs) (r r′ : World.ResD repeater-repeat.signature κs)
+    (s s′ : Clauses.AtExit (K.endedOf 1 repeater-repeat-kinds.ps repeater-repeat-kinds.r) κs) → repeater-repeat-reads.Post κs a r s → repeater-repeat-reads.Post κs a r′ s′
     → (now r ≡ now r′) × ((r .ptr .0 ≡ r′ .ptr .0) × (r .ptr .1 ≡ r′ .ptr .1))
-one-sign-repeat κs a r r′ s s′ h h′ = (one (h .0) (h′ .0), (one (h .1 .0) (h′ .1 .0), one (h .1 .1) (h′ .1 .1)))
+one-repeater-repeat κs a r r′ s s′ h h′ = (one (h .0) (h′ .0), (one (h .1 .0) (h′ .1 .0), one (h .1 .1) (h′ .1 .1)))

@@ -8,5 +8,4 @@ pub mod Punctual
 pub mod Places
 pub mod Sounds
 pub mod Stepping
-pub mod Stretches
 pub mod Tells

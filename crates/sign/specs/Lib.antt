@@ -3,7 +3,6 @@ pub mod Driver
 pub mod Punctual
 pub mod Join
 pub mod Receive
-pub mod Repeat
 pub mod Reset
 pub mod Sound
 pub mod Step

@@ -6,10 +6,8 @@
 //   receive  bytes off the line                                    "Query changes nothing. Reset .."
 //   steps    one step of the running program                       "A step performs one command"
 //   tell     the reply to a query, and a copy of the running body   "One call copies the running body (none when Ready)"
-//   repeater the stretch of the body that a step's text is          "It hands back that very stretch of the body, or .."
 mod join;
 mod receive;
-mod repeater;
 mod reset;
 mod sound;
 mod steps;
@@ -19,8 +17,6 @@ use collect::Collection;
 use judge::Verdict;
 use machine::Answer;
 use machine::Run;
-pub use repeater::repeat;
-pub use repeater::shows;
 
 // The record: last completed ID, the packets being collected, and the running program with the settings.
 pub struct Sign {

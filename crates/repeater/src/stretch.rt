@@ -3,7 +3,7 @@
 ghost use mathlib.Core.Path.{_≡_};
 ghost use Prim.Native.Nat.{_+_};
 ghost use Rattle.basis.specs.Choice.{when};
-ghost use Rattle.sign.specs.Repeat.{withinOf, repeatOf};
+ghost use Rattle.repeater.specs.Repeat.{withinOf, repeatOf};
 
 // Whether the stretch at this place and of this length lies within the body, and its place isn't 0.
 pub fn shows(body: &[u8], place: usize, len: usize) -> bool

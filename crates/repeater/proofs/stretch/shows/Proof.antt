@@ -1,10 +1,10 @@
 -- `shows` tests by differences what the definition says by a sum.
-use Rattle.sign.proofs.Stretches.{nowhere, outside, inside}
+use Rattle.repeater.proofs.Stretches.{nowhere, outside, inside}
 use native.Mathlib.Omega.{arith}
 use mathlib.Core.Path.{sym}
 use borrow.Author.Needs.{needs}
-use Rattle.sign.proofs.repeater.shows.Statement.{statement}
-use Rattle.sign.proofs.repeater.shows.Tie as tie
+use Rattle.repeater.proofs.stretch.shows.Statement.{statement}
+use Rattle.repeater.proofs.stretch.shows.Tie as tie
 
 returns : tie.Need-returns
 returns c =

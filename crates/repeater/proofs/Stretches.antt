@@ -9,7 +9,7 @@ use lib.ListN.{length, take, drop}
 use borrow.Author.Tests.{lt-leb, le-leb, leb-true, eq-eqb, ne-eqb}
 use Rattle.basis.specs.Choice.{when, _and_}
 use Rattle.basis.proofs.Choices.{and-true, and-parts, when-true, when-false}
-use Rattle.sign.specs.Repeat.{withinOf, repeatOf}
+use Rattle.repeater.specs.Repeat.{withinOf, repeatOf}
 
 module _ (body : List ℕ) (place len : ℕ) where
   -- at place 0, or where it ends behind the body, there is no such stretch

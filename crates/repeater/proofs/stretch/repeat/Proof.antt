@@ -1,11 +1,11 @@
 -- `repeat` gives the standing line wherever the stretch doesn't lie within the body.
-use Rattle.sign.proofs.Stretches.{ends, stands, stretches}
+use Rattle.repeater.proofs.Stretches.{ends, stands, stretches}
 use native.Mathlib.Omega.{arith}
 use borrow.Author.Tests.{not-true, not-false}
 use mathlib.Core.Path.{_≡_, sym, _∙_}
 use borrow.Author.Needs.{needs}
-use Rattle.sign.proofs.repeater.repeat.Statement.{statement}
-use Rattle.sign.proofs.repeater.repeat.Tie as tie
+use Rattle.repeater.proofs.stretch.repeat.Statement.{statement}
+use Rattle.repeater.proofs.stretch.repeat.Tie as tie
 
 shows-requires : tie.Need-shows-requires
 shows-requires c κs = search needs

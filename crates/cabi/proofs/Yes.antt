@@ -42,7 +42,7 @@ use Rattle.machine.specs.declared.Run.{Run}
 use Rattle.machine.specs.declared.Stepped.{Stepped as RunStepped}
 use Rattle.reckon.specs.Forecast.{talliesOf, settingsAt, outOfRange, byVerdict, forecastOf}
 use Rattle.reckon.specs.declared.reckon.Foretold.the-variants.{Refused as NoForecast}
-use Rattle.reckon.specs.declared.totals.Totals.{Totals}
+use Rattle.totals.specs.declared.Totals.{Totals}
 use Rattle.collect.specs.Slots.{heldOf, sameOf, begunOf, storedOf}
 use Rattle.collect.specs.declared.Collection.{Collection}
 use Rattle.sign.specs.Join.{staysOf, releaseOf, releasedOf, storesOf, placedOf, slotOf, goesOn, beginsOf, joinOf}

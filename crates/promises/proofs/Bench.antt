@@ -14,7 +14,7 @@ use Rattle.judge.specs.declared.Verdict.the-variants.{Finite}
 use Rattle.course.proofs.Programs.{treeIn}
 use Rattle.reckon.specs.Forecast.{settingsAt, forecastOf}
 use Rattle.machine.specs.Step.{readyOf}
-use Rattle.reckon.specs.Totals.{pricesOf}
+use Rattle.reckon.specs.Forecast.{pricesOf}
 use Rattle.reckon.specs.declared.reckon.Foretold.the-variants.{Ends}
 use Rattle.reckon.proofs.Forecasts.{in-range, settings-sound, tallies-price}
 use Rattle.sign.specs.Reset.{freshOf}

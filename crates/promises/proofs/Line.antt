@@ -16,7 +16,7 @@ use Rattle.judge.specs.declared.Verdict.the-variants.{Finite}
 use Rattle.reckon.specs.Forecast.{settingsAt, forecastOf}
 use Rattle.machine.specs.Line.{lineOf}
 use Rattle.machine.specs.Step.{stepOf, afterRun, saidRun, startedOf}
-use Rattle.reckon.specs.Totals.{totalsOf}
+use Rattle.totals.specs.Totals.{totalsOf}
 use Rattle.machine.specs.declared.Answer.{Answer}
 use Rattle.machine.specs.declared.Run.{Run}
 use Rattle.reckon.specs.declared.reckon.Foretold.{Foretold}

@@ -90,18 +90,18 @@ use Rattle.reckon.proofs.forecast.Reads as reckon-forecast-reads
 use Rattle.machine.proofs.zeros as machine-zeros
 use Rattle.machine.proofs.zeros.Kinds as machine-zeros-kinds
 use Rattle.machine.proofs.zeros.Reads as machine-zeros-reads
-use Rattle.reckon.proofs.totals.Totals.none as reckon-totals-Totals-none
-use Rattle.reckon.proofs.totals.Totals.none.Kinds as reckon-totals-Totals-none-kinds
-use Rattle.reckon.proofs.totals.Totals.none.Reads as reckon-totals-Totals-none-reads
-use Rattle.reckon.proofs.totals.Totals.cost as reckon-totals-Totals-cost
-use Rattle.reckon.proofs.totals.Totals.cost.Kinds as reckon-totals-Totals-cost-kinds
-use Rattle.reckon.proofs.totals.Totals.cost.Reads as reckon-totals-Totals-cost-reads
-use Rattle.reckon.proofs.totals.Totals.plus as reckon-totals-Totals-plus
-use Rattle.reckon.proofs.totals.Totals.plus.Kinds as reckon-totals-Totals-plus-kinds
-use Rattle.reckon.proofs.totals.Totals.plus.Reads as reckon-totals-Totals-plus-reads
-use Rattle.reckon.proofs.totals.Totals.times as reckon-totals-Totals-times
-use Rattle.reckon.proofs.totals.Totals.times.Kinds as reckon-totals-Totals-times-kinds
-use Rattle.reckon.proofs.totals.Totals.times.Reads as reckon-totals-Totals-times-reads
+use Rattle.totals.proofs.Totals.none as totals-Totals-none
+use Rattle.totals.proofs.Totals.none.Kinds as totals-Totals-none-kinds
+use Rattle.totals.proofs.Totals.none.Reads as totals-Totals-none-reads
+use Rattle.totals.proofs.Totals.cost as totals-Totals-cost
+use Rattle.totals.proofs.Totals.cost.Kinds as totals-Totals-cost-kinds
+use Rattle.totals.proofs.Totals.cost.Reads as totals-Totals-cost-reads
+use Rattle.totals.proofs.Totals.plus as totals-Totals-plus
+use Rattle.totals.proofs.Totals.plus.Kinds as totals-Totals-plus-kinds
+use Rattle.totals.proofs.Totals.plus.Reads as totals-Totals-plus-reads
+use Rattle.totals.proofs.Totals.times as totals-Totals-times
+use Rattle.totals.proofs.Totals.times.Kinds as totals-Totals-times-kinds
+use Rattle.totals.proofs.Totals.times.Reads as totals-Totals-times-reads
 use Rattle.units.proofs.Steps.add as units-Steps-add
 use Rattle.units.proofs.Steps.add.Kinds as units-Steps-add-kinds
 use Rattle.units.proofs.Steps.add.Reads as units-Steps-add-reads
@@ -293,21 +293,21 @@ pub one-machine-zeros : (κs : Lifetimes.Lfts 1) (a : World.ArgsD machine-zeros.
     (s s′ : Clauses.AtExit (K.endedOf 1 machine-zeros-kinds.ps machine-zeros-kinds.r) κs) → machine-zeros-reads.Post κs a r s → machine-zeros-reads.Post κs a r′ s′ → r ≡ r′
 one-machine-zeros κs a r r′ s s′ h h′ = one h h′
 
-pub one-reckon-totals-Totals-none : (κs : Lifetimes.Lfts 0) (a : World.ArgsD reckon-totals-Totals-none.signature κs) (r r′ : World.ResD reckon-totals-Totals-none.signature κs)
-    (s s′ : Clauses.AtExit (K.endedOf 0 reckon-totals-Totals-none-kinds.ps reckon-totals-Totals-none-kinds.r) κs) → reckon-totals-Totals-none-reads.Post κs a r s → reckon-totals-Totals-none-reads.Post κs a r′ s′ → r ≡ r′
-one-reckon-totals-Totals-none κs a r r′ s s′ h h′ = one h h′
+pub one-totals-Totals-none : (κs : Lifetimes.Lfts 0) (a : World.ArgsD totals-Totals-none.signature κs) (r r′ : World.ResD totals-Totals-none.signature κs)
+    (s s′ : Clauses.AtExit (K.endedOf 0 totals-Totals-none-kinds.ps totals-Totals-none-kinds.r) κs) → totals-Totals-none-reads.Post κs a r s → totals-Totals-none-reads.Post κs a r′ s′ → r ≡ r′
+one-totals-Totals-none κs a r r′ s s′ h h′ = one h h′
 
-pub one-reckon-totals-Totals-cost : (κs : Lifetimes.Lfts 0) (a : World.ArgsD reckon-totals-Totals-cost.signature κs) (r r′ : World.ResD reckon-totals-Totals-cost.signature κs)
-    (s s′ : Clauses.AtExit (K.endedOf 0 reckon-totals-Totals-cost-kinds.ps reckon-totals-Totals-cost-kinds.r) κs) → reckon-totals-Totals-cost-reads.Post κs a r s → reckon-totals-Totals-cost-reads.Post κs a r′ s′ → r ≡ r′
-one-reckon-totals-Totals-cost κs a r r′ s s′ h h′ = one h h′
+pub one-totals-Totals-cost : (κs : Lifetimes.Lfts 0) (a : World.ArgsD totals-Totals-cost.signature κs) (r r′ : World.ResD totals-Totals-cost.signature κs)
+    (s s′ : Clauses.AtExit (K.endedOf 0 totals-Totals-cost-kinds.ps totals-Totals-cost-kinds.r) κs) → totals-Totals-cost-reads.Post κs a r s → totals-Totals-cost-reads.Post κs a r′ s′ → r ≡ r′
+one-totals-Totals-cost κs a r r′ s s′ h h′ = one h h′
 
-pub one-reckon-totals-Totals-plus : (κs : Lifetimes.Lfts 0) (a : World.ArgsD reckon-totals-Totals-plus.signature κs) (r r′ : World.ResD reckon-totals-Totals-plus.signature κs)
-    (s s′ : Clauses.AtExit (K.endedOf 0 reckon-totals-Totals-plus-kinds.ps reckon-totals-Totals-plus-kinds.r) κs) → reckon-totals-Totals-plus-reads.Post κs a r s → reckon-totals-Totals-plus-reads.Post κs a r′ s′ → r ≡ r′
-one-reckon-totals-Totals-plus κs a r r′ s s′ h h′ = one h h′
+pub one-totals-Totals-plus : (κs : Lifetimes.Lfts 0) (a : World.ArgsD totals-Totals-plus.signature κs) (r r′ : World.ResD totals-Totals-plus.signature κs)
+    (s s′ : Clauses.AtExit (K.endedOf 0 totals-Totals-plus-kinds.ps totals-Totals-plus-kinds.r) κs) → totals-Totals-plus-reads.Post κs a r s → totals-Totals-plus-reads.Post κs a r′ s′ → r ≡ r′
+one-totals-Totals-plus κs a r r′ s s′ h h′ = one h h′
 
-pub one-reckon-totals-Totals-times : (κs : Lifetimes.Lfts 0) (a : World.ArgsD reckon-totals-Totals-times.signature κs) (r r′ : World.ResD reckon-totals-Totals-times.signature κs)
-    (s s′ : Clauses.AtExit (K.endedOf 0 reckon-totals-Totals-times-kinds.ps reckon-totals-Totals-times-kinds.r) κs) → reckon-totals-Totals-times-reads.Post κs a r s → reckon-totals-Totals-times-reads.Post κs a r′ s′ → r ≡ r′
-one-reckon-totals-Totals-times κs a r r′ s s′ h h′ = one h h′
+pub one-totals-Totals-times : (κs : Lifetimes.Lfts 0) (a : World.ArgsD totals-Totals-times.signature κs) (r r′ : World.ResD totals-Totals-times.signature κs)
+    (s s′ : Clauses.AtExit (K.endedOf 0 totals-Totals-times-kinds.ps totals-Totals-times-kinds.r) κs) → totals-Totals-times-reads.Post κs a r s → totals-Totals-times-reads.Post κs a r′ s′ → r ≡ r′
+one-totals-Totals-times κs a r r′ s s′ h h′ = one h h′
 
 pub one-units-Steps-add : (κs : Lifetimes.Lfts 0) (a : World.ArgsD units-Steps-add.signature κs) (r r′ : World.ResD units-Steps-add.signature κs)
     (s s′ : Clauses.AtExit (K.endedOf 0 units-Steps-add-kinds.ps units-Steps-add-kinds.r) κs) → units-Steps-add-reads.Post κs a r s → units-Steps-add-reads.Post κs a r′ s′ → r .0 ≡ r′ .0

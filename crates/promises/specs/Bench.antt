@@ -11,7 +11,7 @@ use Rattle.judge.specs.Verdict.{judgeOf}
 use Rattle.judge.specs.declared.Verdict.{Verdict}
 use Rattle.judge.specs.declared.Verdict.the-variants.{Refused as RefusedBody}
 use Rattle.reckon.specs.Forecast.{forecastOf}
-use Rattle.reckon.specs.Totals.{totalsOf}
+use Rattle.totals.specs.Totals.{totalsOf}
 use Rattle.reckon.specs.declared.reckon.Foretold.{Foretold}
 use Rattle.reckon.specs.declared.reckon.Foretold.the-variants.{Ends}
 use Rattle.sign.specs.Reset.{powerOn}

@@ -22,7 +22,7 @@ use Rattle.course.proofs.Programs.{treeIn}
 use Rattle.reckon.specs.Forecast.{forecastOf}
 use Rattle.machine.specs.Line.{lineOf, performed}
 use Rattle.machine.specs.Step.{stepOf, startedOf}
-use Rattle.reckon.specs.Totals.{totalsOf}
+use Rattle.totals.specs.Totals.{totalsOf}
 use Rattle.machine.specs.declared.Answer.{Answer}
 use Rattle.machine.specs.declared.Answer.the-variants.{Idle}
 use Rattle.machine.specs.declared.Run.{Run}

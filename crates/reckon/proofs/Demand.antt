@@ -20,12 +20,12 @@ use Rattle.course.proofs.Programs.{treeIn}
 use Rattle.machine.specs.Line.{lineOf}
 use Rattle.course.proofs.Theorem.{finite-ends}
 use Rattle.reckon.specs.Forecast.{settingsAt, forecastOf}
-use Rattle.reckon.specs.Totals.{totalsOf}
+use Rattle.totals.specs.Totals.{totalsOf}
 use Rattle.reckon.specs.declared.reckon.Foretold.the-variants.{Ends, Endless as Never}
 use Rattle.reckon.proofs.Forecasts.{in-range, settings-sound, tallies-price}
 use Rattle.machine.proofs.Ranges.{ranged}
 use Rattle.reckon.proofs.Small.{scans-fit, millis-fit}
-use Rattle.reckon.proofs.Sums.{totals-are}
+use Rattle.totals.proofs.Sums.{totals-are}
 
 module _ (b : List ℕ) (σ : Settings) (set : settingsSound σ ≡ true) where
   -- the forecast at the pace and scans that the sign is set to, by what its line performs

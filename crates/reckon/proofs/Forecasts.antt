@@ -21,7 +21,7 @@ use Rattle.course.proofs.Theorem.{finite-ends}
 use Rattle.machine.specs.Line.{lineOf, performed}
 use Rattle.machine.specs.Step.{stepOf, afterRun, saidRun, startedOf}
 use Rattle.reckon.specs.Forecast.{measured, tally, mostSteps, talliesOf, settingsAt, outOfRange, byVerdict, forecastOf}
-use Rattle.reckon.specs.Totals.{pricesOf}
+use Rattle.reckon.specs.Forecast.{pricesOf}
 use Rattle.machine.specs.declared.Answer.{Answer}
 use Rattle.machine.specs.declared.Answer.the-variants.{Did}
 use Rattle.machine.specs.declared.Run.{Run}
@@ -29,7 +29,7 @@ use Rattle.reckon.specs.declared.reckon.Foretold.the-variants.{Refused}
 use Rattle.machine.proofs.Follows.{ready-none}
 use Rattle.machine.proofs.Lines.{BusyRun, line-ends}
 use Rattle.machine.proofs.Ranges.{sounds}
-use Rattle.reckon.proofs.Sums.{totals-are}
+use Rattle.totals.proofs.Sums.{totals-are}
 
 -- a run that performs these commands and is then Ready
 tally-is : (f : Performed → ℕ) (fuel : ℕ) (xs : List Performed) (r : Run) → length xs ≤ fuel → saidRun (length xs) r ≡ performed xs

@@ -1,4 +1,3 @@
-pub mod Sums
 pub mod Reckons
 pub mod Passes
 pub mod Wholes

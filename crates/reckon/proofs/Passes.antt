@@ -14,9 +14,9 @@ use Rattle.course.specs.Steps.{saysOf}
 use Rattle.course.specs.Price.{scans, millis}
 use Rattle.course.proofs.Agrees.{Agree, scans-care, millis-care}
 use Rattle.reckon.specs.Reckon.{setsPart, addedOf, strideOf, passOf, alikeOf, laterOf}
-use Rattle.reckon.specs.Totals.{totalsOf, costOf, plusOf}
+use Rattle.totals.specs.Totals.{totalsOf, costOf, plusOf}
 use Rattle.reckon.specs.declared.reckon.Reckoned.{Reckoned}
-use Rattle.reckon.specs.declared.totals.Totals.{Totals}
+use Rattle.totals.specs.declared.Totals.{Totals}
 
 -- at one place, with one sum, at settings that agree in pace and scans
 abbrev Like : Reckoned → Reckoned → Type 0

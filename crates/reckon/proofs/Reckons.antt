@@ -23,9 +23,9 @@ use Rattle.judge.proofs.Tokens.{tokens-first, tokens-none}
 use Rattle.course.specs.Steps.{saysOf}
 use Rattle.judge.proofs.Values.{get-loop}
 use Rattle.reckon.specs.Reckon.{setsPart, addedOf, plainOf, strideOf, passOf, laterOf, turnOf, loopedOf}
-use Rattle.reckon.specs.Totals.{noneOf, costOf, plusOf, timesOf}
+use Rattle.totals.specs.Totals.{noneOf, costOf, plusOf, timesOf}
 use Rattle.reckon.specs.declared.reckon.Reckoned.{Reckoned}
-use Rattle.reckon.specs.declared.totals.Totals.{Totals}
+use Rattle.totals.specs.declared.Totals.{Totals}
 use Rattle.machine.proofs.Commands.{says-is}
 
 -- a text of no bytes has no width

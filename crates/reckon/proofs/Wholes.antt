@@ -19,10 +19,11 @@ use Rattle.course.proofs.Programs.{treeIn, program}
 use Rattle.course.proofs.Runs.{At, past, at-past}
 use Rattle.course.proofs.Theorem.{finite-stands}
 use Rattle.reckon.specs.Reckon.{addedOf, strideOf, passOf, loopedOf, turnOf}
-use Rattle.reckon.specs.Totals.{noneOf, costOf, plusOf, timesOf, pricesOf}
+use Rattle.totals.specs.Totals.{noneOf, costOf, plusOf, timesOf}
+use Rattle.reckon.specs.Forecast.{pricesOf}
 use Rattle.reckon.specs.declared.reckon.Reckoned.{Reckoned}
-use Rattle.reckon.specs.declared.totals.Totals.{Totals}
-use Rattle.reckon.proofs.Sums.{totals-are, Within, plus-within, plus-none, plus-one, plus-loop}
+use Rattle.totals.specs.declared.Totals.{Totals}
+use Rattle.totals.proofs.Sums.{totals-are, Within, plus-within, plus-none, plus-one, plus-loop}
 
 -- what is reckoned behind a block
 abbrev behindBlock : Block → Reckoned → Reckoned

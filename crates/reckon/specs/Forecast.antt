@@ -12,17 +12,18 @@ use Rattle.perform.specs.declared.price.Performed.{Performed}
 use Rattle.judge.specs.Verdict.{judgeOf}
 use Rattle.judge.specs.declared.Verdict.{Verdict}
 use Rattle.judge.specs.declared.Verdict.the-variants.{Finite, Endless, Refused}
-use Rattle.course.specs.Price.{ones, scans, millis, leavesOf}
+use Rattle.course.specs.Price.{ones, scans, millis, priceOf, leavesOf}
+use Rattle.course.specs.Tree.{Block}
 use Rattle.course.proofs.Programs.{treeIn}
 use Rattle.machine.specs.Step.{stepOf, startedOf}
-use Rattle.reckon.specs.Totals.{totalsOf, pricesOf}
+use Rattle.totals.specs.Totals.{totalsOf}
 use Rattle.machine.specs.declared.Answer.{Answer}
 use Rattle.machine.specs.declared.Answer.the-variants.{Did, Idle, Refused as RefusedStep}
 use Rattle.machine.specs.declared.Run.{Run}
 use Rattle.reckon.specs.declared.reckon.Foretold.{Foretold}
 use Rattle.reckon.specs.declared.reckon.Foretold.the-variants.{Ends, Endless as Never, Refused as RefusedForecast}
 use Rattle.reckon.specs.declared.reckon.Priced.{Priced}
-use Rattle.reckon.specs.declared.totals.Totals.{Totals}
+use Rattle.totals.specs.declared.Totals.{Totals}
 
 -- a measure of what a step answered
 abbrev pub measured : (Performed → ℕ) → Answer → ℕ
@@ -58,6 +59,10 @@ byVerdict (Refused n p) t = RefusedForecast n p
 unfoldable pub forecastOf : List ℕ → ℕ → ℕ → Foretold
 forecastOf b pace each =
     when (outOfRange pace each) (RefusedForecast 17 0) (byVerdict (judgeOf b) (talliesOf (startedOf b (settingsAt pace each))))
+
+-- what a block costs, in the three units
+abbrev pub pricesOf : Block → Settings → Totals
+pricesOf t σ = totalsOf (capped (priceOf ones t σ)) (capped (priceOf scans t σ)) (capped (priceOf millis t σ))
 
 -- what a program that ends costs by two readings of its loops, and the settings that it leaves
 abbrev pub pricedOf : List ℕ → Settings → Priced

@@ -1,3 +1,2 @@
 pub mod Forecast
 pub mod Reckon
-pub mod Totals

@@ -11,9 +11,9 @@ use Rattle.judge.specs.Token.{Part, act, rep, close, forever, again, Tok, good,
 use Rattle.judge.specs.declared.Role.{Role}
 use Rattle.judge.specs.declared.Role.the-variants.{Plain, Repeat, Close, Forever, Again}
 use Rattle.course.specs.Steps.{saysOf, setsOf}
-use Rattle.reckon.specs.Totals.{noneOf, costOf, plusOf, timesOf}
+use Rattle.totals.specs.Totals.{noneOf, costOf, plusOf, timesOf}
 use Rattle.reckon.specs.declared.reckon.Reckoned.{Reckoned}
-use Rattle.reckon.specs.declared.totals.Totals.{Totals}
+use Rattle.totals.specs.declared.Totals.{Totals}
 
 -- the settings behind a command
 abbrev pub setsPart : Part → Settings → Settings

@@ -1,10 +1,8 @@
 // The forecast of a program ("The forecast gives totals of steps, scans and milliseconds (32 bits suffice), or says endless"). No
 // call has a `requires`; each answers for any bytes, pace and scans.
-//   totals   steps, scans and milliseconds summed, each in its unit    "The forecast gives totals of steps, scans and milliseconds"
-//   reckon   a program's commands added up, and the forecast           "It should read a loop's commands at most twice", and 17
+//   reckon   a program's commands added up, and the forecast   "It should read a loop's commands at most twice", and 17
 // specs/Forecast says what a forecast is by the steps of `machine`, and specs/Reckon how the code comes to it.
 mod reckon;
-mod totals;
 
 pub use reckon::Foretold;
 pub use reckon::forecast;

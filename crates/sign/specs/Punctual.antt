@@ -7,7 +7,7 @@ use lib.ListN.{length}
 use Rattle.perform.specs.declared.settings.Settings.{Settings}
 use Rattle.course.specs.Price.{sumBy, scans, millis}
 use Rattle.reckon.specs.Forecast.{forecastOf}
-use Rattle.reckon.specs.Totals.{totalsOf}
+use Rattle.totals.specs.Totals.{totalsOf}
 use Rattle.reckon.specs.declared.reckon.Foretold.the-variants.{Ends}
 use Rattle.machine.specs.Line.{lineOf, performed}
 use Rattle.sign.specs.Driver.{Event, afterEvents, saidEvents, stepsIn}

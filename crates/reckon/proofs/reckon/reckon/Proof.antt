@@ -8,9 +8,9 @@ use Rattle.perform.specs.declared.settings.Settings.{Settings}
 use Rattle.judge.specs.declared.Verdict.the-variants.{Finite}
 use Rattle.course.specs.Price.{leavesOf}
 use Rattle.course.proofs.Programs.{treeIn, program}
-use Rattle.reckon.specs.Totals.{pricesOf}
+use Rattle.reckon.specs.Forecast.{pricesOf}
 use Rattle.reckon.specs.declared.reckon.Reckoned.{Reckoned}
-use Rattle.reckon.specs.declared.totals.Totals.{Totals}
+use Rattle.totals.specs.declared.Totals.{Totals}
 use Rattle.reckon.proofs.Wholes.{Left, left-all, left-none, turn-keeps}
 use Rattle.reckon.proofs.reckon.reckon.Statement.{statement}
 use Rattle.reckon.proofs.reckon.reckon.Tie as tie

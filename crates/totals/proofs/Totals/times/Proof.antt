@@ -1,8 +1,8 @@
 -- `times` multiplies unit by unit.
-use Rattle.reckon.proofs.Sums.{totals-are}
+use Rattle.totals.proofs.Sums.{totals-are}
 use borrow.Author.Needs.{needs}
-use Rattle.reckon.proofs.totals.Totals.times.Statement.{statement}
-use Rattle.reckon.proofs.totals.Totals.times.Tie as tie
+use Rattle.totals.proofs.Totals.times.Statement.{statement}
+use Rattle.totals.proofs.Totals.times.Tie as tie
 
 times-requires : tie.Need-times-requires
 times-requires c κs = search needs

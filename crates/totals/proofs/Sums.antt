@@ -9,8 +9,8 @@ use Rattle.units.specs.Units.{limit, capped, sumOf, timesOf as timesOver}
 use Rattle.units.specs.declared.Steps.{Steps}
 use Rattle.units.specs.declared.Scans.{Scans}
 use Rattle.units.specs.declared.Millis.{Millis}
-use Rattle.reckon.specs.Totals.{totalsOf, noneOf, plusOf, timesOf}
-use Rattle.reckon.specs.declared.totals.Totals.{Totals}
+use Rattle.totals.specs.Totals.{totalsOf, noneOf, plusOf, timesOf}
+use Rattle.totals.specs.declared.Totals.{Totals}
 
 pub totals-are : (a : Steps) (b : Scans) (c : Millis) (x y z : ℕ) → a .0 ≡ x → b .0 ≡ y → c .0 ≡ z
     → _≡_ {A = Totals} (record { steps = a; scans = b; millis = c }) (totalsOf x y z)

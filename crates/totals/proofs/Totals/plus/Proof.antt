@@ -1,8 +1,8 @@
 -- `plus` adds unit by unit.
-use Rattle.reckon.proofs.Sums.{totals-are}
+use Rattle.totals.proofs.Sums.{totals-are}
 use borrow.Author.Needs.{needs}
-use Rattle.reckon.proofs.totals.Totals.plus.Statement.{statement}
-use Rattle.reckon.proofs.totals.Totals.plus.Tie as tie
+use Rattle.totals.proofs.Totals.plus.Statement.{statement}
+use Rattle.totals.proofs.Totals.plus.Tie as tie
 
 add-requires : tie.Need-add-requires
 add-requires c κs = search needs

@@ -1,16 +1,12 @@
-// Totals of steps, scans and milliseconds, each in its unit ("The forecast gives totals of steps, scans and milliseconds").
+// Totals made: of nothing, of one command, of two totals, of totals some times over. Answers to 01: "Shifts, scans and milliseconds are
+// counted apart and never added to each other".
+use crate::Totals;
 use perform::Performed;
 use units::Millis;
 use units::Scans;
 use units::Steps;
 ghost use mathlib.Core.Path.{_≡_};
-ghost use Rattle.reckon.specs.Totals.{noneOf, costOf, plusOf, timesOf};
-
-pub struct Totals {
-    pub steps: Steps,
-    pub scans: Scans,
-    pub millis: Millis,
-}
+ghost use Rattle.totals.specs.Totals.{noneOf, costOf, plusOf, timesOf};
 
 impl Totals {
     // Nothing so far.

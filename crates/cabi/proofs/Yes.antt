@@ -9,8 +9,8 @@ use borrow.Author.Tests.{eqb-false}
 use lib.ListN.{length, getD, take, drop}
 use Rattle.basis.specs.Choice.{when, within, _and_, _or_}
 use Rattle.basis.specs.Rows.{firstOf}
-use Rattle.packet.specs.Reply.{heardOf, isLast, isReply, statusOf}
-use Rattle.packet.specs.declared.reply.Status.the-variants.{Heard, Refused as Unheard}
+use Rattle.reply.specs.Reply.{heardOf, isLast, isReply, statusOf}
+use Rattle.reply.specs.declared.Status.the-variants.{Heard, Refused as Unheard}
 use Rattle.reader.specs.Read.{isNormal, rowsOf, refusedOr, named, readOf}
 use Rattle.reader.specs.declared.read.Reading.{Reading}
 use Rattle.reader.specs.declared.read.Reading.the-variants.{Query as QueryRead, Reset as ResetRead, Normal, Refused as Unread}

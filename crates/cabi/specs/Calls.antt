@@ -8,11 +8,11 @@ use Rattle.basis.specs.Bytes.{laid}
 use Rattle.basis.specs.Choice.{when}
 use Rattle.basis.specs.Rows.{Row, _if_}
 use Rattle.reader.specs.Read.{readOf, toldOf}
-use Rattle.packet.specs.Reply.{heardOf, numberOf as heardNo}
+use Rattle.reply.specs.Reply.{heardOf, numberOf as heardNo}
 use Rattle.reader.specs.declared.read.Reading.{Reading}
 use Rattle.reader.specs.declared.read.Reading.the-variants.{Query as QueryRead, Reset as ResetRead, Normal, Refused as Unread}
-use Rattle.packet.specs.declared.reply.Status.{Status}
-use Rattle.packet.specs.declared.reply.Status.the-variants.{Heard, Refused as Unheard}
+use Rattle.reply.specs.declared.Status.{Status}
+use Rattle.reply.specs.declared.Status.the-variants.{Heard, Refused as Unheard}
 use Rattle.program.specs.declared.Kind.{Kind}
 use Rattle.program.specs.declared.Kind.the-variants.{II, IA, IB, S, L, E, F, R, XS, XF, P, Scans, W, XD, XB, Y}
 use Rattle.perform.specs.declared.price.Performed.{Performed}

@@ -1,22 +1,22 @@
 // Packets and replies for C, read and written. Answers to 01, "The packet".
 use crate::words::lay;
 use crate::words::wrote;
-use packet::Status;
-use packet::read_reply;
 use packet::write_packet;
 use packet::write_query;
-use packet::write_reply;
 use packet::write_reset;
 use packet::write_transmission;
 use reader::Reading;
 use reader::read_packet;
+use reply::Status;
+use reply::read_reply;
+use reply::write_reply;
 ghost use mathlib.Core.Path.{_≡_};
 ghost use mathlib.Core.Bool.{not};
 ghost use mathlib.Core.List.{[], _∷_};
 ghost use lib.Dec.{eqb};
-ghost use Rattle.packet.specs.Reply.{replyRows};
 ghost use Rattle.packet.specs.Wire.{queryOf, resetOf, packetAt, transmissionOf, replyOf};
 ghost use Rattle.packet.specs.Write.{shortBy, packetRows, transmissionRows};
+ghost use Rattle.reply.specs.Reply.{replyRows};
 ghost use Rattle.cabi.specs.Words.{Tells};
 ghost use Rattle.cabi.specs.Calls.{readNo, readAnswer, replyNo, replyAnswer};
 

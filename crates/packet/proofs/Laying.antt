@@ -2,15 +2,14 @@
 use Prim.Native.Nat.{ℕ, _+_, _-_, _≤_}
 use mathlib.Core.Path.{_≡_, refl, sym, ap, _∙_}
 use mathlib.Core.List.{List, [], _∷_, _++_}
-use mathlib.Core.Bool.{Bool}
 use native.Mathlib.Omega.{arith}
 use native.Mathlib.Numerals.{add-one}
 use lib.ListN.{length, take, drop, set, length-append, length-drop}
 use lib.Seq.{take-length}
 use borrow.Rule.Slice.PartMut.{putMid}
 use Rattle.basis.specs.Bytes.{laid}
-use Rattle.basis.proofs.Laid.{laid-at, laid-over, laid-lent, laid-push, take-laid}
-use Rattle.packet.specs.Wire.{checkOf, sealed, packetOf, turned, stateOf, auxOf, replyOf}
+use Rattle.basis.proofs.Laid.{laid-at, laid-over, laid-lent, take-laid}
+use Rattle.packet.specs.Wire.{checkOf, sealed, packetOf}
 
 pub seal-lays : (o : List ℕ) (at check : ℕ) → at + 2 ≤ length o → check ≡ checkOf (take at o)
     → set (set o at 0) (at + 1) check ≡ laid (sealed (take at o)) o
@@ -41,14 +40,3 @@ packet-lays mid id fifth part o f y fits ef ey =
     let back : putMid 5 (length f - 5) f y ≡ laid (front ++ part) o = laid-lent 5 front part o f y refl least ef copied in
     let end : length part + 5 ≡ length (front ++ part) = omega (arith, length-append front part) in
     ap (λ (r : List ℕ). laid (sealed (take (length part + 5) r)) r) back ∙ seal-laid (front ++ part) o (length part + 5) end
-
--- the front, one byte behind it and the seal make the reply
-pub reply-lays : (mid last : ℕ) (busy sink : Bool) (o f : List ℕ) → 8 ≤ length o
-    → f ≡ laid (turned mid ∷ 0x7F ∷ 8 ∷ last ∷ stateOf busy ∷ []) o
-    → laid (sealed (take 6 (set f 5 (auxOf sink)))) (set f 5 (auxOf sink)) ≡ laid (replyOf mid last busy sink) o
-unfolding replyOf
-reply-lays mid last busy sink o f fits ef =
-    let front = turned mid ∷ 0x7F ∷ 8 ∷ last ∷ stateOf busy ∷ [] in
-    let pushed : set f 5 (auxOf sink) ≡ laid (front ++ auxOf sink ∷ []) o =
-    ap (λ (r : List ℕ). set r 5 (auxOf sink)) ef ∙ laid-push front o (auxOf sink) (omega arith) in
-    ap (λ (r : List ℕ). laid (sealed (take 6 r)) r) pushed ∙ seal-laid (front ++ auxOf sink ∷ []) o 6 refl

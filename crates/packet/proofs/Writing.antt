@@ -1,11 +1,11 @@
 -- From the tests of a writer to its outcome: a refusal leaves the buffer, a yes lays the bytes.
 use Prim.Native.Nat.{ℕ, suc, _+_, _-_, _*_, _≤_, _<_, min}
-use mathlib.Core.Path.{_≡_, refl, sym, ap, _∙_}
+use mathlib.Core.Path.{_≡_, sym, ap, _∙_}
 use mathlib.Core.List.{List, [], _∷_}
 use native.Mathlib.Omega.{arith}
-use mathlib.Core.Bool.{Bool, true}
+use mathlib.Core.Bool.{Bool}
 use borrow.Author.Tests.{lt-ltb, le-ltb}
-use lib.ListN.{length, take, drop, set, length-take, length-drop}
+use lib.ListN.{length, take, drop, length-take, length-drop}
 use native.Mathlib.Numerals.{add-one}
 use borrow.Rule.Slice.PartMut.{putMid}
 use lib.Dec.{ltb}
@@ -14,12 +14,10 @@ use Rattle.basis.specs.Choice.{when}
 use Rattle.basis.specs.Rows.{Row, firstOf}
 use Rattle.basis.proofs.Laid.{laid-lent, length-laid}
 use Rattle.basis.proofs.Tests.{tests}
-use Rattle.packet.specs.Reply.{isLast, replyRows}
-use Rattle.packet.specs.Wire.{sealed, turned, stateOf, auxOf, replyOf, totalOf, partOf, packetOf, packetAt, packetsOf, transmissionOf}
+use Rattle.packet.specs.Wire.{totalOf, partOf, packetOf, packetAt, packetsOf, transmissionOf}
 use Rattle.packet.specs.Write.{Writes, answerOf, bufferOf, packetRows, transmissionRows}
 use Rattle.packet.specs.declared.write.Written.{Written}
 use Rattle.packet.specs.declared.write.Written.the-variants.{Wrote, Refused}
-use Rattle.packet.proofs.Laying.{reply-lays}
 use Rattle.packet.proofs.Parts.{packet-length, part-length, part-cut, packets-length, transmission-length}
 
 module _ (rows : List Row) (bytes out : List ℕ) where
@@ -110,16 +108,3 @@ module _ (mid id : ℕ) (body out : List ℕ) (some : length body ≡ 0 → ⊥)
       let most : length (packetsOf mid id body (position + 1)) ≤ length out =
       omega (arith, packets-length mid id body (position + 1)) in
       (now, ap length now ∙ length-laid (packetsOf mid id body (position + 1)) out most)
-
--- a reply that is written whole
-pub reply-wrote : (mid last : ℕ) (busy sink : Bool) (o f after : List ℕ) (from state aux : ℕ) → isLast last ≡ true → 8 ≤ length o
-    → from ≡ turned mid → state ≡ stateOf busy → aux ≡ auxOf sink → f ≡ laid (from ∷ 0x7F ∷ 8 ∷ last ∷ state ∷ []) o
-    → after ≡ laid (sealed (take 6 (set f 5 aux))) (set f 5 aux)
-    → Writes (replyRows mid last busy sink o) (replyOf mid last busy sink) o (Wrote 8) after
-unfolding replyOf
-reply-wrote mid last busy sink o f after from state aux known fits e1 e2 e3 ef ea =
-    let front : f ≡ laid (turned mid ∷ 0x7F ∷ 8 ∷ last ∷ stateOf busy ∷ []) o = cc in
-    let whole : after ≡ laid (sealed (take 6 (set f 5 (auxOf sink)))) (set f 5 (auxOf sink)) =
-    ea ∙ ap (λ (k : ℕ). laid (sealed (take 6 (set f 5 k))) (set f 5 k)) e3 in
-    wrote (replyRows mid last busy sink o) (replyOf mid last busy sink) o 8 after (search (tests, known)) refl
-    (whole ∙ reply-lays mid last busy sink o f fits front)

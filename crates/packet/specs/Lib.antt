@@ -1,3 +1,2 @@
-pub mod Reply
 pub mod Wire
 pub mod Write

@@ -16,7 +16,7 @@ pub enum Written {
 }
 
 // Ends the first `at` bytes of the buffer with 00h and their checksum.
-pub(crate) fn seal(out: &mut [u8], at: usize)
+fn seal(out: &mut [u8], at: usize)
     requires { ⌜ at + 2 ≤ length (now out) ⌝ }
     ensures { λ _. ⌜ now (out .exit) ≡ laid (sealed (take at (now (out .entry)))) (now (out .entry)) ⌝ }
 {
@@ -25,8 +25,8 @@ pub(crate) fn seal(out: &mut [u8], at: usize)
     out[at + 1] = check;
 }
 
-// Lays the five bytes that every packet and reply starts with.
-pub(crate) fn write_front(mid: u8, count: u8, id: u8, fifth: u8, out: &mut [u8])
+// Lays the five bytes that every packet starts with.
+fn write_front(mid: u8, count: u8, id: u8, fifth: u8, out: &mut [u8])
     requires { ⌜ 5 ≤ length (now out) ⌝ }
     ensures { λ _. ⌜ now (out .exit) ≡ laid (mid ∷ 0x7F ∷ count ∷ id ∷ fifth ∷ []) (now (out .entry)) ⌝ }
 {

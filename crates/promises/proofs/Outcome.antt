@@ -21,15 +21,15 @@ use Rattle.packet.proofs.write_packet.Reads as packet-write-packet-reads
 use Rattle.packet.proofs.write_transmission as packet-write-transmission
 use Rattle.packet.proofs.write_transmission.Kinds as packet-write-transmission-kinds
 use Rattle.packet.proofs.write_transmission.Reads as packet-write-transmission-reads
-use Rattle.packet.proofs.read_reply as packet-read-reply
-use Rattle.packet.proofs.read_reply.Kinds as packet-read-reply-kinds
-use Rattle.packet.proofs.read_reply.Reads as packet-read-reply-reads
-use Rattle.packet.proofs.write_reply as packet-write-reply
-use Rattle.packet.proofs.write_reply.Kinds as packet-write-reply-kinds
-use Rattle.packet.proofs.write_reply.Reads as packet-write-reply-reads
-use Rattle.packet.proofs.is_last as packet-is-last
-use Rattle.packet.proofs.is_last.Kinds as packet-is-last-kinds
-use Rattle.packet.proofs.is_last.Reads as packet-is-last-reads
+use Rattle.reply.proofs.read_reply as reply-read-reply
+use Rattle.reply.proofs.read_reply.Kinds as reply-read-reply-kinds
+use Rattle.reply.proofs.read_reply.Reads as reply-read-reply-reads
+use Rattle.reply.proofs.write_reply as reply-write-reply
+use Rattle.reply.proofs.write_reply.Kinds as reply-write-reply-kinds
+use Rattle.reply.proofs.write_reply.Reads as reply-write-reply-reads
+use Rattle.reply.proofs.is_last as reply-is-last
+use Rattle.reply.proofs.is_last.Kinds as reply-is-last-kinds
+use Rattle.reply.proofs.is_last.Reads as reply-is-last-reads
 use Rattle.packet.proofs.sum_of as packet-sum-of
 use Rattle.packet.proofs.sum_of.Kinds as packet-sum-of-kinds
 use Rattle.packet.proofs.sum_of.Reads as packet-sum-of-reads
@@ -200,18 +200,18 @@ pub one-packet-write-transmission : (κs : Lifetimes.Lfts 2) (a : World.ArgsD pa
     → (r ≡ r′) × (now (s .1 .1 .1 .0) ≡ now (s′ .1 .1 .1 .0))
 one-packet-write-transmission κs a r r′ s s′ h h′ = (one (h .answered) (h′ .answered), one (h .left) (h′ .left))
 
-pub one-packet-read-reply : (κs : Lifetimes.Lfts 1) (a : World.ArgsD packet-read-reply.signature κs) (r r′ : World.ResD packet-read-reply.signature κs)
-    (s s′ : Clauses.AtExit (K.endedOf 1 packet-read-reply-kinds.ps packet-read-reply-kinds.r) κs) → packet-read-reply-reads.Post κs a r s → packet-read-reply-reads.Post κs a r′ s′ → r ≡ r′
-one-packet-read-reply κs a r r′ s s′ h h′ = one h h′
+pub one-reply-read-reply : (κs : Lifetimes.Lfts 1) (a : World.ArgsD reply-read-reply.signature κs) (r r′ : World.ResD reply-read-reply.signature κs)
+    (s s′ : Clauses.AtExit (K.endedOf 1 reply-read-reply-kinds.ps reply-read-reply-kinds.r) κs) → reply-read-reply-reads.Post κs a r s → reply-read-reply-reads.Post κs a r′ s′ → r ≡ r′
+one-reply-read-reply κs a r r′ s s′ h h′ = one h h′
 
-pub one-packet-write-reply : (κs : Lifetimes.Lfts 1) (a : World.ArgsD packet-write-reply.signature κs) (r r′ : World.ResD packet-write-reply.signature κs)
-    (s s′ : Clauses.AtExit (K.endedOf 1 packet-write-reply-kinds.ps packet-write-reply-kinds.r) κs) → packet-write-reply-reads.Post κs a r s → packet-write-reply-reads.Post κs a r′ s′
+pub one-reply-write-reply : (κs : Lifetimes.Lfts 1) (a : World.ArgsD reply-write-reply.signature κs) (r r′ : World.ResD reply-write-reply.signature κs)
+    (s s′ : Clauses.AtExit (K.endedOf 1 reply-write-reply-kinds.ps reply-write-reply-kinds.r) κs) → reply-write-reply-reads.Post κs a r s → reply-write-reply-reads.Post κs a r′ s′
     → (r ≡ r′) × (now (s .1 .1 .1 .1 .0) ≡ now (s′ .1 .1 .1 .1 .0))
-one-packet-write-reply κs a r r′ s s′ h h′ = (one (h .answered) (h′ .answered), one (h .left) (h′ .left))
+one-reply-write-reply κs a r r′ s s′ h h′ = (one (h .answered) (h′ .answered), one (h .left) (h′ .left))
 
-pub one-packet-is-last : (κs : Lifetimes.Lfts 0) (a : World.ArgsD packet-is-last.signature κs) (r r′ : World.ResD packet-is-last.signature κs)
-    (s s′ : Clauses.AtExit (K.endedOf 0 packet-is-last-kinds.ps packet-is-last-kinds.r) κs) → packet-is-last-reads.Post κs a r s → packet-is-last-reads.Post κs a r′ s′ → r ≡ r′
-one-packet-is-last κs a r r′ s s′ h h′ = one h h′
+pub one-reply-is-last : (κs : Lifetimes.Lfts 0) (a : World.ArgsD reply-is-last.signature κs) (r r′ : World.ResD reply-is-last.signature κs)
+    (s s′ : Clauses.AtExit (K.endedOf 0 reply-is-last-kinds.ps reply-is-last-kinds.r) κs) → reply-is-last-reads.Post κs a r s → reply-is-last-reads.Post κs a r′ s′ → r ≡ r′
+one-reply-is-last κs a r r′ s s′ h h′ = one h h′
 
 pub one-packet-sum-of : (κs : Lifetimes.Lfts 1) (a : World.ArgsD packet-sum-of.signature κs) (r r′ : World.ResD packet-sum-of.signature κs)
     (s s′ : Clauses.AtExit (K.endedOf 1 packet-sum-of-kinds.ps packet-sum-of-kinds.r) κs) → packet-sum-of-reads.Post κs a r s → packet-sum-of-reads.Post κs a r′ s′ → r ≡ r′

@@ -12,7 +12,7 @@ use Rattle.basis.proofs.Laid.{take-laid, drop-laid}
 use Rattle.basis.proofs.Tests.{tests}
 use Rattle.packet.specs.Wire.{fifthOf, packetOf, totalOf, partOf, packetAt, replyOf}
 use Rattle.reader.specs.Read.{readOf}
-use Rattle.packet.specs.Reply.{isLast, heardOf, replyRows}
+use Rattle.reply.specs.Reply.{isLast, heardOf, replyRows}
 use Rattle.packet.specs.Write.{packetRows, answerOf, bufferOf}
 use Rattle.reader.specs.declared.read.Reading.the-variants.{Normal, Refused}
 use Rattle.packet.specs.declared.write.Written.the-variants.{Wrote}
@@ -21,7 +21,7 @@ use Rattle.packet.proofs.Parts.{part-length}
 use Rattle.packet.proofs.Stands.{at-length, part-stands}
 use Rattle.reader.proofs.Unique.{same-fields}
 use Rattle.reader.proofs.Refusals.{refused-lowest, no-packet}
-use Rattle.packet.proofs.Replies.{reply-reads, same-reply}
+use Rattle.reply.proofs.Replies.{reply-reads, same-reply}
 use Rattle.promises.specs.Bench.{hi}
 use Rattle.promises.specs.Wire.{ReadsBack, HearsBack, WireHolds, ours, refusing, idle}
 

@@ -8,13 +8,13 @@ use lib.ListN.{length, take, drop}
 use Rattle.basis.specs.Bytes.{Bytes}
 use Rattle.packet.specs.Wire.{totalOf, partOf, packetAt, replyOf}
 use Rattle.reader.specs.Read.{rowsOf, readOf}
-use Rattle.packet.specs.Reply.{isLast, heardOf, replyRows}
+use Rattle.reply.specs.Reply.{isLast, heardOf, replyRows}
 use Rattle.packet.specs.Write.{Writes, packetRows, answerOf, bufferOf}
 use Rattle.basis.specs.Rows.{firstOf}
 use Rattle.reader.specs.declared.read.Reading.{Reading}
 use Rattle.reader.specs.declared.read.Reading.the-variants.{Normal, Refused}
-use Rattle.packet.specs.declared.reply.Status.{Status}
-use Rattle.packet.specs.declared.reply.Status.the-variants.{Heard}
+use Rattle.reply.specs.declared.Status.{Status}
+use Rattle.reply.specs.declared.Status.the-variants.{Heard}
 use Rattle.packet.specs.declared.write.Written.{Written}
 use Rattle.packet.specs.declared.write.Written.the-variants.{Wrote}
 use Rattle.reader.proofs.Refusals.{Lowest}

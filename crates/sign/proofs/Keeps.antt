@@ -15,7 +15,7 @@ use Rattle.basis.specs.Choice.{when, _and_, _or_, within}
 use Rattle.basis.proofs.Choices.{and-parts, and-true, when-true, when-false}
 use Rattle.basis.proofs.Laid.{length-laid}
 use Rattle.reader.specs.Read.{readOf}
-use Rattle.packet.specs.Reply.{isLast}
+use Rattle.reply.specs.Reply.{isLast}
 use Rattle.reader.specs.declared.read.Reading.{Reading}
 use Rattle.reader.specs.declared.read.Reading.the-variants.{Query, Reset, Normal, Refused}
 use Rattle.perform.specs.Settings.{soundOf as settingsSound}

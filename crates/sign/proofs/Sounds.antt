@@ -6,7 +6,7 @@ use lib.Dec.{eqb}
 use borrow.Author.Tests.{eqb-true, eq-eqb, ne-eqb}
 use Rattle.basis.specs.Choice.{_and_, _or_}
 use Rattle.basis.proofs.Choices.{and-parts, and-true}
-use Rattle.packet.specs.Reply.{isLast}
+use Rattle.reply.specs.Reply.{isLast}
 use Rattle.collect.specs.Sound.{soundOf as collectionSound}
 use Rattle.machine.specs.Sound.{soundOf as runSound}
 use Rattle.sign.specs.Sound.{aloneOf, framedOf, soundOf}

@@ -12,7 +12,7 @@ use Rattle.basis.specs.Bytes.{laid}
 use Rattle.basis.specs.Choice.{when}
 use Rattle.basis.specs.Rows.{Row, _if_, firstOf}
 use Rattle.machine.specs.Sound.{bodyOf}
-use Rattle.packet.specs.Reply.{isLast, replyRows}
+use Rattle.reply.specs.Reply.{isLast, replyRows}
 use Rattle.packet.specs.Write.{shortBy, answerOf, bufferOf, Writes}
 use Rattle.packet.specs.declared.write.Written.{Written}
 use Rattle.packet.specs.declared.write.Written.the-variants.{Wrote, Refused}

@@ -5,7 +5,7 @@ use Prim.Native.Nat.{ℕ}
 use mathlib.Core.Bool.{Bool}
 use lib.Dec.{eqb}
 use Rattle.basis.specs.Choice.{_and_, _or_}
-use Rattle.packet.specs.Reply.{isLast}
+use Rattle.reply.specs.Reply.{isLast}
 use Rattle.collect.specs.Sound.{soundOf as collectionSound}
 use Rattle.machine.specs.Sound.{soundOf as runSound}
 use Rattle.sign.specs.declared.Sign.{Sign}

@@ -1,7 +1,7 @@
 // Which records are sound. Answers to 01's last paragraph of "Numbers for no": "last ID 0 to 3Fh or 41h; .. Busy collects nothing";
 // the parts of the collection and of the run are decided by their own crates.
 use crate::Sign;
-use packet::is_last;
+use reply::is_last;
 ghost use mathlib.Core.Path.{_≡_};
 ghost use Rattle.sign.specs.Sound.{framedOf, soundOf};
 

@@ -2,7 +2,7 @@
 // bytes", "One call copies the running body (none when Ready) into a lent buffer and tells its length; bytes behind it stay", and to 16 and 34.
 use crate::Sign;
 use packet::Written;
-use packet::write_reply;
+use reply::write_reply;
 ghost use mathlib.Core.Path.{_≡_};
 ghost use Rattle.machine.specs.Sound.{bodyOf};
 ghost use Rattle.packet.specs.Write.{Writes};

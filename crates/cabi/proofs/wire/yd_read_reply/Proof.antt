@@ -1,8 +1,8 @@
 -- `yd_read_reply` lays the words of what was heard; a refusal lays none.
 use mathlib.Core.Path.{sym, _∙_}
 use Rattle.cabi.proofs.Lays.{answers, laid-none, heard-lays}
-use Rattle.packet.specs.Reply.{heardOf, numberOf}
-use Rattle.packet.specs.declared.reply.Status.the-variants.{Heard, Refused}
+use Rattle.reply.specs.Reply.{heardOf, numberOf}
+use Rattle.reply.specs.declared.Status.the-variants.{Heard, Refused}
 use Rattle.cabi.specs.Calls.{heardWords}
 use Rattle.basis.proofs.Tests.{tests}
 use borrow.Author.Needs.{needs}

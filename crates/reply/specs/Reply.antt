@@ -7,10 +7,10 @@ use lib.Dec.{eqb, leb}
 use Rattle.basis.specs.Bytes.{sum}
 use Rattle.basis.specs.Choice.{when, _and_, _or_}
 use Rattle.basis.specs.Rows.{Row, _if_}
 use Rattle.packet.specs.Wire.{turned, replyOf}
 use Rattle.packet.specs.Write.{shortBy}
-use Rattle.packet.specs.declared.reply.Status.{Status}
-use Rattle.packet.specs.declared.reply.Status.the-variants.{Heard, Refused}
+use Rattle.reply.specs.declared.Status.{Status}
+use Rattle.reply.specs.declared.Status.the-variants.{Heard, Refused}
 
 -- last ID 0 to 3Fh or 41h
 abbrev pub isLast : ℕ → Bool
@@ -27,11 +27,11 @@ isReply mid b =
     and eqb (getD b 6 0) 0
 
 -- the three bytes that tell: last ID, `B` or `R`, `S` or `F`
+abbrev pub isTold : ℕ → ℕ → ℕ → Bool
+isTold last state aux = isLast last and (eqb state 0x42 or eqb state 0x52) and (eqb aux 0x53 or eqb aux 0x46)
+
 abbrev pub statusOf : ℕ → ℕ → ℕ → Status
-statusOf last state aux =
-    when (isLast last and (eqb state 0x42 or eqb state 0x52) and (eqb aux 0x53 or eqb aux 0x46))
-    (Heard last (eqb state 0x42) (eqb aux 0x53))
-    (Refused 35)
+statusOf last state aux = when (isTold last state aux) (Heard last (eqb state 0x42) (eqb aux 0x53)) (Refused 35)
 
 -- what the sender hears: 35 for all but a reply of the sign with this MID
 unfoldable pub heardOf : ℕ → List ℕ → Status

@@ -13,11 +13,11 @@ use Rattle.basis.specs.Choice.{when, _and_, _or_}
 use Rattle.basis.proofs.Bytes.{five-front}
 use Rattle.basis.proofs.Choices.{when-true, and-true, and-parts}
 use Rattle.basis.proofs.Tests.{tests}
 use Rattle.packet.specs.Wire.{sealed, turned, stateOf, auxOf, replyOf}
-use Rattle.packet.specs.Reply.{isLast, isReply, statusOf, heardOf}
-use Rattle.packet.specs.declared.reply.Status.{Status}
-use Rattle.packet.specs.declared.reply.Status.the-variants.{Heard, Refused}
+use Rattle.reply.specs.Reply.{isLast, isReply, statusOf, heardOf}
+use Rattle.reply.specs.declared.Status.{Status}
+use Rattle.reply.specs.declared.Status.the-variants.{Heard, Refused}
 use Rattle.packet.proofs.Seals.{balanced, only-seal}
 
 -- a reply's frame that is right is read by the three bytes that tell
 pub reply-right : (mid : ℕ) (b : List ℕ) → length b ≡ 8 → sum b % 256 ≡ 0 → getD b 0 0 ≡ turned mid → getD b 1 0 ≡ 0x7F

@@ -1,0 +1,43 @@
+// Hears a reply. Answers to 01, number 35: "reply reader, its only number: not the 8 bytes above for the given MID, last ID 0 to 3Fh or
+// 41h".
+use crate::Status;
+use crate::letters::is_told;
+use crate::letters::turned_mid;
+use packet::sum_of;
+ghost use mathlib.Core.Path.{_≡_};
+ghost use Rattle.reply.specs.Reply.{heardOf};
+
+// The reply of the sign with this MID, or 35.
+pub fn read_reply(mid: u8, bytes: &[u8]) -> Status
+    ensures { λ r. ⌜ r ≡ heardOf mid (now (bytes .entry)) ⌝ }
+{
+    if bytes.len() != 8 {
+        return Status::Refused(35);
+    }
+    if sum_of(bytes) != 0 {
+        return Status::Refused(35);
+    }
+    if bytes[0] != turned_mid(mid) {
+        return Status::Refused(35);
+    }
+    if bytes[1] != 0x7f {
+        return Status::Refused(35);
+    }
+    if bytes[2] != 8 {
+        return Status::Refused(35);
+    }
+    if bytes[6] != 0 {
+        return Status::Refused(35);
+    }
+    let last = bytes[3];
+    let state = bytes[4];
+    let aux = bytes[5];
+    if !is_told(last, state, aux) {
+        return Status::Refused(35);
+    }
+    Status::Heard {
+        last,
+        busy: state == b'B',
+        sink: aux == b'S',
+    }
+}

@@ -1,0 +1,31 @@
+// Lays a reply. Answers to 01: "The sign answers a query with 8 bytes: MID with its lowest bit turned, 7Fh, 8, last ID, ..", and to 34.
+use crate::letters::aux_letter;
+use crate::letters::is_last;
+use crate::letters::state_letter;
+use crate::letters::turned_mid;
+use packet::Written;
+use packet::checksum;
+ghost use mathlib.Core.Path.{_≡_};
+ghost use Rattle.packet.specs.Wire.{replyOf};
+ghost use Rattle.packet.specs.Write.{Writes};
+ghost use Rattle.reply.specs.Reply.{replyRows};
+
+// Lays a reply of these fields; 32 for an ID that no sign completes, 34 for want of room.
+pub fn write_reply(mid: u8, last: u8, busy: bool, sink: bool, out: &mut [u8]) -> Written
+    ensures { λ r. ⌜ Writes (replyRows mid last busy sink (now (out .entry))) (replyOf mid last busy sink) (now (out .entry)) r (now (out .exit)) ⌝ }
+{
+    if !is_last(last) {
+        return Written::Refused(32);
+    }
+    if out.len() < 8 {
+        return Written::Refused(34);
+    }
+    let from = turned_mid(mid);
+    let state = state_letter(busy);
+    let aux = aux_letter(sink);
+    let front = [from, 0x7f, 8, last, state, aux];
+    bytes::copy(&front, out);
+    out[6] = 0;
+    out[7] = checksum(&front);
+    Written::Wrote(8)
+}

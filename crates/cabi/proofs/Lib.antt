@@ -1,2 +1,1 @@
 pub mod Lays
-pub mod Yes

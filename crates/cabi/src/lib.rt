@@ -1,14 +1,14 @@
 // The calls for C: numbers and lent bytes, one function for each public call, as include/yurodekapi.h describes them.
 // No call has a `requires`: each answers for any numbers and any bytes. An image of another size (251) or an answer that is too short
-// (252) is refused before all else, and a refused call changes no lent byte.
-//   words  numbers as words of four bytes, the result of a call, and the record in a lent image
+// (252) is refused before all else, and a refused call changes no lent byte. What an answer is told as stands in the crate `words`.
+//   held   the record in a lent image
 //   wire   packets and replies, read and written      01, "The packet"
 //   line   a body judged and forecast                 01, "The program", "One step, and what it costs"
 //   unit   the sign over its image                    01, "Joining", "One step, and what it costs"
+mod held;
 mod line;
 mod unit;
 mod wire;
-mod words;
 
 pub use line::yd_forecast;
 pub use line::yd_judge;

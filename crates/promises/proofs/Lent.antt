@@ -1,5 +1,5 @@
--- One outcome, of the calls for C: any two outcomes that a contract allows are equal, of the result, the image and every lent byte; and of the
--- image both ways. Stated over the contract as the prover reads it, as in Outcome.
+-- One outcome, of the calls for C: any two outcomes that a contract allows are equal, of the result, the image and every lent byte; of what they are
+-- told by; and of the image both ways. Stated over the contract as the prover reads it, as in Outcome.
 use mathlib.Core.Path.{_≡_}
 use denote.Ref.{now}
 use contract.Lifetimes
@@ -16,6 +16,30 @@ use Rattle.image.proofs.record_of.Reads as image-record-of-reads
 use Rattle.image.proofs.image_of as image-image-of
 use Rattle.image.proofs.image_of.Kinds as image-image-of-kinds
 use Rattle.image.proofs.image_of.Reads as image-image-of-reads
+use Rattle.words.proofs.tell_written as words-tell-written
+use Rattle.words.proofs.tell_written.Kinds as words-tell-written-kinds
+use Rattle.words.proofs.tell_written.Reads as words-tell-written-reads
+use Rattle.words.proofs.tell_reading as words-tell-reading
+use Rattle.words.proofs.tell_reading.Kinds as words-tell-reading-kinds
+use Rattle.words.proofs.tell_reading.Reads as words-tell-reading-reads
+use Rattle.words.proofs.tell_status as words-tell-status
+use Rattle.words.proofs.tell_status.Kinds as words-tell-status-kinds
+use Rattle.words.proofs.tell_status.Reads as words-tell-status-reads
+use Rattle.words.proofs.tell_verdict as words-tell-verdict
+use Rattle.words.proofs.tell_verdict.Kinds as words-tell-verdict-kinds
+use Rattle.words.proofs.tell_verdict.Reads as words-tell-verdict-reads
+use Rattle.words.proofs.tell_forecast as words-tell-forecast
+use Rattle.words.proofs.tell_forecast.Kinds as words-tell-forecast-kinds
+use Rattle.words.proofs.tell_forecast.Reads as words-tell-forecast-reads
+use Rattle.words.proofs.lay_received as words-lay-received
+use Rattle.words.proofs.lay_received.Kinds as words-lay-received-kinds
+use Rattle.words.proofs.lay_received.Reads as words-lay-received-reads
+use Rattle.words.proofs.lay_performed as words-lay-performed
+use Rattle.words.proofs.lay_performed.Kinds as words-lay-performed-kinds
+use Rattle.words.proofs.lay_performed.Reads as words-lay-performed-reads
+use Rattle.words.proofs.lay_idle as words-lay-idle
+use Rattle.words.proofs.lay_idle.Kinds as words-lay-idle-kinds
+use Rattle.words.proofs.lay_idle.Reads as words-lay-idle-reads
 use Rattle.cabi.proofs.yd_read_packet as cabi-yd-read-packet
 use Rattle.cabi.proofs.yd_read_packet.Kinds as cabi-yd-read-packet-kinds
 use Rattle.cabi.proofs.yd_read_packet.Reads as cabi-yd-read-packet-reads
@@ -79,6 +103,46 @@ pub one-image-image-of : (κs : Lifetimes.Lfts 0) (a : World.ArgsD image-image-o
     (s s′ : Clauses.AtExit (K.endedOf 0 image-image-of-kinds.ps image-image-of-kinds.r) κs) → image-image-of-reads.Post κs a r s → image-image-of-reads.Post κs a r′ s′
     → r ≡ r′
 one-image-image-of κs a r r′ s s′ h h′ = one h h′
+
+pub one-words-tell-written : (κs : Lifetimes.Lfts 0) (a : World.ArgsD words-tell-written.signature κs) (r r′ : World.ResD words-tell-written.signature κs)
+    (s s′ : Clauses.AtExit (K.endedOf 0 words-tell-written-kinds.ps words-tell-written-kinds.r) κs) → words-tell-written-reads.Post κs a r s → words-tell-written-reads.Post κs a r′ s′
+    → r ≡ r′
+one-words-tell-written κs a r r′ s s′ h h′ = one h h′
+
+pub one-words-tell-reading : (κs : Lifetimes.Lfts 1) (a : World.ArgsD words-tell-reading.signature κs) (r r′ : World.ResD words-tell-reading.signature κs)
+    (s s′ : Clauses.AtExit (K.endedOf 1 words-tell-reading-kinds.ps words-tell-reading-kinds.r) κs) → words-tell-reading-reads.Post κs a r s → words-tell-reading-reads.Post κs a r′ s′
+    → (r ≡ r′) × (now (s .1 .0) ≡ now (s′ .1 .0))
+one-words-tell-reading κs a r r′ s s′ h h′ = (one (h .0) (h′ .0), one (h .1) (h′ .1))
+
+pub one-words-tell-status : (κs : Lifetimes.Lfts 1) (a : World.ArgsD words-tell-status.signature κs) (r r′ : World.ResD words-tell-status.signature κs)
+    (s s′ : Clauses.AtExit (K.endedOf 1 words-tell-status-kinds.ps words-tell-status-kinds.r) κs) → words-tell-status-reads.Post κs a r s → words-tell-status-reads.Post κs a r′ s′
+    → (r ≡ r′) × (now (s .1 .0) ≡ now (s′ .1 .0))
+one-words-tell-status κs a r r′ s s′ h h′ = (one (h .0) (h′ .0), one (h .1) (h′ .1))
+
+pub one-words-tell-verdict : (κs : Lifetimes.Lfts 0) (a : World.ArgsD words-tell-verdict.signature κs) (r r′ : World.ResD words-tell-verdict.signature κs)
+    (s s′ : Clauses.AtExit (K.endedOf 0 words-tell-verdict-kinds.ps words-tell-verdict-kinds.r) κs) → words-tell-verdict-reads.Post κs a r s → words-tell-verdict-reads.Post κs a r′ s′
+    → r ≡ r′
+one-words-tell-verdict κs a r r′ s s′ h h′ = one h h′
+
+pub one-words-tell-forecast : (κs : Lifetimes.Lfts 1) (a : World.ArgsD words-tell-forecast.signature κs) (r r′ : World.ResD words-tell-forecast.signature κs)
+    (s s′ : Clauses.AtExit (K.endedOf 1 words-tell-forecast-kinds.ps words-tell-forecast-kinds.r) κs) → words-tell-forecast-reads.Post κs a r s → words-tell-forecast-reads.Post κs a r′ s′
+    → (r ≡ r′) × (now (s .1 .0) ≡ now (s′ .1 .0))
+one-words-tell-forecast κs a r r′ s s′ h h′ = (one (h .0) (h′ .0), one (h .1) (h′ .1))
+
+pub one-words-lay-received : (κs : Lifetimes.Lfts 2) (a : World.ArgsD words-lay-received.signature κs) (r r′ : World.ResD words-lay-received.signature κs)
+    (s s′ : Clauses.AtExit (K.endedOf 2 words-lay-received-kinds.ps words-lay-received-kinds.r) κs) → words-lay-received-reads.Post κs a r s → words-lay-received-reads.Post κs a r′ s′
+    → now (s .1 .1 .1 .0) ≡ now (s′ .1 .1 .1 .0)
+one-words-lay-received κs a r r′ s s′ h h′ = one h h′
+
+pub one-words-lay-performed : (κs : Lifetimes.Lfts 1) (a : World.ArgsD words-lay-performed.signature κs) (r r′ : World.ResD words-lay-performed.signature κs)
+    (s s′ : Clauses.AtExit (K.endedOf 1 words-lay-performed-kinds.ps words-lay-performed-kinds.r) κs) → words-lay-performed-reads.Post κs a r s → words-lay-performed-reads.Post κs a r′ s′
+    → now (s .1 .0) ≡ now (s′ .1 .0)
+one-words-lay-performed κs a r r′ s s′ h h′ = one h h′
+
+pub one-words-lay-idle : (κs : Lifetimes.Lfts 1) (a : World.ArgsD words-lay-idle.signature κs) (r r′ : World.ResD words-lay-idle.signature κs)
+    (s s′ : Clauses.AtExit (K.endedOf 1 words-lay-idle-kinds.ps words-lay-idle-kinds.r) κs) → words-lay-idle-reads.Post κs a r s → words-lay-idle-reads.Post κs a r′ s′
+    → now (s .0) ≡ now (s′ .0)
+one-words-lay-idle κs a r r′ s s′ h h′ = one h h′
 
 pub one-cabi-yd-read-packet : (κs : Lifetimes.Lfts 2) (a : World.ArgsD cabi-yd-read-packet.signature κs) (r r′ : World.ResD cabi-yd-read-packet.signature κs)
     (s s′ : Clauses.AtExit (K.endedOf 2 cabi-yd-read-packet-kinds.ps cabi-yd-read-packet-kinds.r) κs) → cabi-yd-read-packet-reads.Post κs a r s → cabi-yd-read-packet-reads.Post κs a r′ s′

@@ -4,3 +4,4 @@ pub mod Outcome
 pub mod Wire
 pub mod Record
 pub mod Lent
+pub mod Yes

@@ -1,9 +1,7 @@
--- `yd_forecast` lays the words of each answer; a refusal lays none.
-use mathlib.Core.Path.{sym, _∙_}
-use Rattle.cabi.proofs.Lays.{answers, laid-none}
+-- `yd_forecast` tells the forecast.
 use Rattle.reckon.specs.Forecast.{forecastOf}
-use Rattle.reckon.specs.declared.reckon.Foretold.the-variants.{Ends, Endless, Refused}
-use Rattle.cabi.specs.Calls.{foretoldResult, foretoldWords}
+use Rattle.words.specs.Told.{foretoldResult, foretoldWords}
+use Rattle.cabi.proofs.Lays.{told-of}
 use Rattle.basis.proofs.Tests.{tests}
 use borrow.Author.Needs.{needs}
 use Rattle.cabi.proofs.line.yd_forecast.Statement.{statement}
@@ -15,81 +13,17 @@ returns c = search tests
 forecast-requires : tie.Need-forecast-requires
 forecast-requires c κs = search needs
 
-enum-known-foretold : tie.Need-enum-known-foretold
-enum-known-foretold c = search needs
-
-slice-aggregate-lay : tie.Need-slice-aggregate-lay
-slice-aggregate-lay c = search needs
-
-lay-requires : tie.Need-lay-requires
-lay-requires c κs = search needs
-
-result-requires : tie.Need-result-requires
-result-requires c κs = search needs
-
-enum-told : tie.Need-enum-told
-enum-told c = search needs
-
-slice-aggregate-lay-2 : tie.Need-slice-aggregate-lay-2
-slice-aggregate-lay-2 c = search needs
-
-lay-requires-2 : tie.Need-lay-requires-2
-lay-requires-2 c κs = search needs
-
-result-requires-2 : tie.Need-result-requires-2
-result-requires-2 c κs = search needs
-
-enum-known-foretold-2 : tie.Need-enum-known-foretold-2
-enum-known-foretold-2 c = search needs
-
-result-requires-3 : tie.Need-result-requires-3
-result-requires-3 c κs = search needs
+tell-forecast-requires : tie.Need-tell-forecast-requires
+tell-forecast-requires c κs = search needs
 
 same-length : tie.Need-same-length
 same-length c = search needs
 
 returns-2 : tie.Need-returns-2
 returns-2 c =
-    let a = c .before .before .before .before .before .before .before .before .before .before .before .before .before .before .before .before .args in
-    let y = forecastOf (a .body .now) (a .pace) (a .scans) in
-    let t = answers foretoldResult foretoldWords 16 (a .answer .now) (Ends (c .before .before .before .before .before .before .before .before .before .before .foretold .given .0 .0)) y (search needs) (sym (c .before .before .before .before .before .before .before .before .before .before .foretold .given .1) ∙ c .before .before .before .before .before .before .before .before .before .before .before .before .forecast .ensures) (c .before .before .before .lay .ensures) in
-    (c .result .ensures ∙ t .0, t .1)
-
-same-length-2 : tie.Need-same-length-2
-same-length-2 c = search needs
-
-returns-3 : tie.Need-returns-3
-returns-3 c =
-    let a = c .before .before .before .before .before .before .before .before .before .before .before .before .args in
-    let y = forecastOf (a .body .now) (a .pace) (a .scans) in
-    let t = answers foretoldResult foretoldWords 16 (a .answer .now) Endless y (search needs) (sym (c .before .before .before .before .before .before .enum-told .given .1) ∙ c .before .before .before .before .before .before .before .before .forecast .ensures) (c .before .before .before .lay2 .ensures) in
-    (c .result2 .ensures ∙ t .0, t .1)
-
-returns-4 : tie.Need-returns-4
-returns-4 c =
     let a = c .before .before .before .before .before .before .before .before .args in
-    let y = forecastOf (a .body .now) (a .pace) (a .scans) in
-    let t = answers foretoldResult foretoldWords 16 (a .answer .now) (Refused (c .before .before .foretold2 .given .0 .0) (c .before .before .foretold2 .given .0 .1 .0)) y (search needs) (sym (c .before .before .foretold2 .given .1) ∙ c .before .before .before .before .forecast .ensures) (laid-none (a .answer .now)) in
-    (c .result3 .ensures ∙ t .0, t .1)
+    told-of foretoldResult foretoldWords 16 (a .answer .now) (c .before .before .before .before .forecast .result) (forecastOf (a .body .now) (a .pace) (a .scans)) (c .before .before .before .before .forecast .ensures) (c .before .before .tell-forecast .ensures)
 
 pub yd-forecast-spec : {M : Type 1} → statement M
 yd-forecast-spec =
-    tie.close
-    (tie.spec
-    returns
-    forecast-requires
-    enum-known-foretold
-    slice-aggregate-lay
-    lay-requires
-    result-requires
-    enum-told
-    slice-aggregate-lay-2
-    lay-requires-2
-    result-requires-2
-    enum-known-foretold-2
-    result-requires-3
-    same-length
-    returns-2
-    same-length-2
-    returns-3
-    returns-4)
+    tie.close (tie.spec returns forecast-requires tell-forecast-requires same-length returns-2)

@@ -1,6 +1,6 @@
--- `yd_judge` gives each verdict its result.
-use mathlib.Core.Path.{sym, ap, _∙_}
-use Rattle.cabi.specs.Calls.{judgedOf}
+-- `yd_judge` tells the verdict.
+use mathlib.Core.Path.{ap, _∙_}
+use Rattle.words.specs.Told.{judgedOf}
 use borrow.Author.Needs.{needs}
 use Rattle.cabi.proofs.line.yd_judge.Statement.{statement}
 use Rattle.cabi.proofs.line.yd_judge.Tie as tie
@@ -8,44 +8,11 @@ use Rattle.cabi.proofs.line.yd_judge.Tie as tie
 judge-requires : tie.Need-judge-requires
 judge-requires c κs = search needs
 
-enum-told : tie.Need-enum-told
-enum-told c = search needs
-
-result-requires : tie.Need-result-requires
-result-requires c κs = search needs
-
-enum-told-2 : tie.Need-enum-told-2
-enum-told-2 c = search needs
-
-result-requires-2 : tie.Need-result-requires-2
-result-requires-2 c κs = search needs
-
-enum-known-verdict : tie.Need-enum-known-verdict
-enum-known-verdict c = search needs
-
-result-requires-3 : tie.Need-result-requires-3
-result-requires-3 c κs = search needs
+tell-verdict-requires : tie.Need-tell-verdict-requires
+tell-verdict-requires c κs = search needs
 
 returns : tie.Need-returns
-returns c = c .result .ensures ∙ ap judgedOf (sym (c .before .enum-told .given .1) ∙ c .before .before .before .judge .ensures)
-
-returns-2 : tie.Need-returns-2
-returns-2 c = c .result2 .ensures ∙ ap judgedOf (sym (c .before .enum-told2 .given .1) ∙ c .before .before .before .judge .ensures)
-
-returns-3 : tie.Need-returns-3
-returns-3 c = c .result3 .ensures ∙ ap judgedOf (sym (c .before .before .verdict .given .1) ∙ c .before .before .before .before .judge .ensures)
+returns c = c .tell-verdict .ensures ∙ ap judgedOf (c .before .judge .ensures)
 
 pub yd-judge-spec : {M : Type 1} → statement M
-yd-judge-spec =
-    tie.close
-    (tie.spec
-    judge-requires
-    enum-told
-    result-requires
-    enum-told-2
-    result-requires-2
-    enum-known-verdict
-    result-requires-3
-    returns
-    returns-2
-    returns-3)
+yd-judge-spec = tie.close (tie.spec judge-requires tell-verdict-requires returns)

@@ -16,8 +16,8 @@ load-requires c κs = search needs
 copy-body-requires : tie.Need-copy-body-requires
 copy-body-requires c κs = search needs
 
-wrote-requires : tie.Need-wrote-requires
-wrote-requires c κs = search needs
+tell-written-requires : tie.Need-tell-written-requires
+tell-written-requires c κs = search needs
 
 same-length : tie.Need-same-length
 same-length c = search needs
@@ -25,9 +25,9 @@ same-length c = search needs
 returns-2 : tie.Need-returns-2
 returns-2 c =
     let a = c .before .before .before .before .before .before .before .before .before .args in
-    sign-tells (λ (s : Sign). bodyOf (s .run)) (a .image .now) (a .out .now) (search needs) (c .before .before .before .before .before .load .ensures) (c .before .before .before .copy-body .ensures) (c .wrote .ensures)
+    sign-tells (λ (s : Sign). bodyOf (s .run)) (a .image .now) (a .out .now) (search needs) (c .before .before .before .before .before .load .ensures) (c .before .before .before .copy-body .ensures) (c .tell-written .ensures)
 
 pub yd-copy-body-spec : {M : Type 1} → statement M
 yd-copy-body-spec =
     tie.close
-    (tie.spec returns load-requires copy-body-requires wrote-requires same-length returns-2)
+    (tie.spec returns load-requires copy-body-requires tell-written-requires same-length returns-2)

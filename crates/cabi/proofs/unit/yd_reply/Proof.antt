@@ -18,8 +18,8 @@ load-requires c κs = search needs
 reply-requires : tie.Need-reply-requires
 reply-requires c κs = search needs
 
-wrote-requires : tie.Need-wrote-requires
-wrote-requires c κs = search needs
+tell-written-requires : tie.Need-tell-written-requires
+tell-written-requires c κs = search needs
 
 same-length : tie.Need-same-length
 same-length c = search needs
@@ -27,8 +27,8 @@ same-length c = search needs
 returns-2 : tie.Need-returns-2
 returns-2 c =
     let a = c .before .before .before .before .before .before .before .before .before .args in
-    sign-tells (λ (s : Sign). saysOf s (a .mid) (not (eqb (a .aux) 0))) (a .image .now) (a .out .now) (search needs) (c .before .before .before .before .before .load .ensures) (c .before .before .before .reply .ensures) (c .wrote .ensures)
+    sign-tells (λ (s : Sign). saysOf s (a .mid) (not (eqb (a .aux) 0))) (a .image .now) (a .out .now) (search needs) (c .before .before .before .before .before .load .ensures) (c .before .before .before .reply .ensures) (c .tell-written .ensures)
 
 pub yd-reply-spec : {M : Type 1} → statement M
 yd-reply-spec =
-    tie.close (tie.spec returns load-requires reply-requires wrote-requires same-length returns-2)
+    tie.close (tie.spec returns load-requires reply-requires tell-written-requires same-length returns-2)

@@ -1,7 +1,10 @@
 -- `yd_step` lays the words of the answer and the next image; a refusal leaves both.
-use mathlib.Core.Path.{refl}
-use Rattle.cabi.proofs.Lays.{step-answers, laid-none}
+use mathlib.Core.List.{[]}
+use mathlib.Core.Path.{refl, _∙_}
 use Rattle.machine.specs.declared.Answer.the-variants.{Did, Idle, Refused}
+use Rattle.words.specs.Words.{wordsOf}
+use Rattle.words.proofs.Lays.{laid-none, told-room}
+use Rattle.cabi.proofs.Lays.{step-answers}
 use Rattle.basis.proofs.Tests.{tests}
 use borrow.Author.Needs.{needs}
 use Rattle.cabi.proofs.unit.yd_step.Statement.{statement}
@@ -31,11 +34,8 @@ store-requires c κs = search needs
 enum-told : tie.Need-enum-told
 enum-told c = search needs
 
-slice-aggregate-lay : tie.Need-slice-aggregate-lay
-slice-aggregate-lay c = search needs
-
-lay-requires : tie.Need-lay-requires
-lay-requires c κs = search needs
+lay-idle-requires : tie.Need-lay-idle-requires
+lay-idle-requires c κs = search needs
 
 store-requires-2 : tie.Need-store-requires-2
 store-requires-2 c κs = search needs
@@ -65,8 +65,8 @@ same-length-4 c = search needs
 
 returns-4 : tie.Need-returns-4
 returns-4 c =
-    let a = c .before .before .before .before .before .before .before .before .before .before .before .before .before .before .before .before .before .before .before .args in
-    step-answers (a .image .now) (a .answer .now) (c .before .before .before .before .before .before .before .before .before .before .before .before .before .load .result) (c .before .before .before .before .before .before .before .before .before .before .before .before .step .result) Idle (search needs) (search needs) (c .before .before .before .before .before .before .before .before .before .before .before .before .before .load .ensures) (c .before .before .before .before .before .before .before .before .before .before .before .before .step .ensures) (c .before .before .before .before .before .before .before .before .before .enum-told .given .1) (c .before .before .store2 .ensures) (c .before .before .before .before .before .before .lay .ensures)
+    let a = c .before .before .before .before .before .before .before .before .before .before .before .before .before .before .before .before .before .before .args in
+    step-answers (a .image .now) (a .answer .now) (c .before .before .before .before .before .before .before .before .before .before .before .before .load .result) (c .before .before .before .before .before .before .before .before .before .before .before .step .result) Idle (search needs) (search needs) (c .before .before .before .before .before .before .before .before .before .before .before .before .load .ensures) (c .before .before .before .before .before .before .before .before .before .before .before .step .ensures) (c .before .before .before .before .before .before .before .before .enum-told .given .1) (c .before .before .store2 .ensures) (c .before .before .before .before .before .before .lay-idle .ensures)
 
 same-length-5 : tie.Need-same-length-5
 same-length-5 c = search needs
@@ -74,7 +74,7 @@ same-length-5 c = search needs
 returns-5 : tie.Need-returns-5
 returns-5 c =
     let a = c .before .before .before .before .before .before .before .before .before .before .before .args in
-    step-answers (a .image .now) (a .answer .now) (c .before .before .before .before .before .load .result) (c .before .before .before .before .step .result) (Refused (c .before .said2 .given .0 .0)) (search needs) (search needs) (c .before .before .before .before .before .load .ensures) (c .before .before .before .before .step .ensures) (c .before .said2 .given .1) refl (laid-none (a .answer .now))
+    step-answers (a .image .now) (a .answer .now) (c .before .before .before .before .before .load .result) (c .before .before .before .before .step .result) (Refused (c .before .said2 .given .0 .0)) (search needs) (search needs) (c .before .before .before .before .before .load .ensures) (c .before .before .before .before .step .ensures) (c .before .said2 .given .1) refl (laid-none (a .answer .now) ∙ told-room 28 (wordsOf []) (a .answer .now) (search needs))
 
 pub yd-step-spec : {M : Type 1} → statement M
 yd-step-spec =
@@ -88,8 +88,7 @@ yd-step-spec =
     lay-performed-requires
     store-requires
     enum-told
-    slice-aggregate-lay
-    lay-requires
+    lay-idle-requires
     store-requires-2
     enum-known-said-2
     cast-result

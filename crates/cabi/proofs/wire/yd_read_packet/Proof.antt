@@ -1,10 +1,8 @@
--- `yd_read_packet` lays the words of each reading; a refusal lays none.
-use mathlib.Core.Path.{sym, _∙_}
-use Rattle.cabi.proofs.Lays.{answers, laid-none}
+-- `yd_read_packet` tells what the reader reads.
 use Rattle.reader.specs.Read.{readOf, toldOf}
 use Rattle.reader.specs.declared.read.Reading.{Reading}
-use Rattle.reader.specs.declared.read.Reading.the-variants.{Query, Reset, Normal, Refused}
-use Rattle.cabi.specs.Calls.{readWords}
+use Rattle.words.specs.Told.{readWords}
+use Rattle.cabi.proofs.Lays.{told-of}
 use Rattle.basis.proofs.Tests.{tests}
 use borrow.Author.Needs.{needs}
 use Rattle.cabi.proofs.wire.yd_read_packet.Statement.{statement}
@@ -16,103 +14,17 @@ returns c = search tests
 read-packet-requires : tie.Need-read-packet-requires
 read-packet-requires c κs = search needs
 
-enum-told : tie.Need-enum-told
-enum-told c = search needs
-
-slice-aggregate-lay : tie.Need-slice-aggregate-lay
-slice-aggregate-lay c = search needs
-
-lay-requires : tie.Need-lay-requires
-lay-requires c κs = search needs
-
-enum-told-2 : tie.Need-enum-told-2
-enum-told-2 c = search needs
-
-slice-aggregate-lay-2 : tie.Need-slice-aggregate-lay-2
-slice-aggregate-lay-2 c = search needs
-
-lay-requires-2 : tie.Need-lay-requires-2
-lay-requires-2 c κs = search needs
-
-enum-known-reading : tie.Need-enum-known-reading
-enum-known-reading c = search needs
-
-cast-t27 : tie.Need-cast-t27
-cast-t27 c = search needs
-
-cast-t28 : tie.Need-cast-t28
-cast-t28 c = search needs
-
-cast-t29 : tie.Need-cast-t29
-cast-t29 c = search needs
-
-slice-aggregate-lay-3 : tie.Need-slice-aggregate-lay-3
-slice-aggregate-lay-3 c = search needs
-
-lay-requires-3 : tie.Need-lay-requires-3
-lay-requires-3 c κs = search needs
-
-enum-known-reading-2 : tie.Need-enum-known-reading-2
-enum-known-reading-2 c = search needs
-
-cast-result : tie.Need-cast-result
-cast-result c = search needs
+tell-reading-requires : tie.Need-tell-reading-requires
+tell-reading-requires c κs = search needs
 
 same-length : tie.Need-same-length
 same-length c = search needs
 
 returns-2 : tie.Need-returns-2
 returns-2 c =
-    let a = c .before .before .before .before .before .before .before .before .before .before .before .args in
-    answers (λ (x : Reading). toldOf x .number) readWords 20 (a .answer .now) Query (readOf (a .mid) (a .bytes .now)) (search needs) (sym (c .before .before .before .before .before .enum-told .given .1) ∙ c .before .before .before .before .before .before .before .read-packet .ensures) (c .before .before .lay .ensures)
-
-same-length-2 : tie.Need-same-length-2
-same-length-2 c = search needs
-
-returns-3 : tie.Need-returns-3
-returns-3 c =
-    let a = c .before .before .before .before .before .before .before .before .before .before .before .args in
-    answers (λ (x : Reading). toldOf x .number) readWords 20 (a .answer .now) Reset (readOf (a .mid) (a .bytes .now)) (search needs) (sym (c .before .before .before .before .before .enum-told2 .given .1) ∙ c .before .before .before .before .before .before .before .read-packet .ensures) (c .before .before .lay2 .ensures)
-
-same-length-3 : tie.Need-same-length-3
-same-length-3 c = search needs
-
-returns-4 : tie.Need-returns-4
-returns-4 c =
-    let a = c .before .before .before .before .before .before .before .before .before .before .before .before .args in
-    let g = c .before .before .before .before .before .before .reading .given in
-    answers (λ (x : Reading). toldOf x .number) readWords 20 (a .answer .now) (Normal (g .0 .0) (g .0 .1 .0) (g .0 .1 .1 .0) (g .0 .1 .1 .1 .0)) (readOf (a .mid) (a .bytes .now)) (search needs) (sym (g .1) ∙ c .before .before .before .before .before .before .before .before .read-packet .ensures) (c .before .before .lay3 .ensures)
-
-returns-5 : tie.Need-returns-5
-returns-5 c =
-    let a = c .before .before .before .before .before .before .before .args in
-    let g = c .before .reading2 .given in
-    answers (λ (x : Reading). toldOf x .number) readWords 20 (a .answer .now) (Refused (g .0 .0)) (readOf (a .mid) (a .bytes .now)) (search needs) (sym (g .1) ∙ c .before .before .before .read-packet .ensures) (laid-none (a .answer .now))
+    let a = c .before .before .before .before .before .before .before .before .args in
+    told-of (λ (x : Reading). toldOf x .number) readWords 20 (a .answer .now) (c .before .before .before .before .read-packet .result) (readOf (a .mid) (a .bytes .now)) (c .before .before .before .before .read-packet .ensures) (c .before .before .tell-reading .ensures)
 
 pub yd-read-packet-spec : {M : Type 1} → statement M
 yd-read-packet-spec =
-    tie.close
-    (tie.spec
-    returns
-    read-packet-requires
-    enum-told
-    slice-aggregate-lay
-    lay-requires
-    enum-told-2
-    slice-aggregate-lay-2
-    lay-requires-2
-    enum-known-reading
-    cast-t27
-    cast-t28
-    cast-t29
-    slice-aggregate-lay-3
-    lay-requires-3
-    enum-known-reading-2
-    cast-result
-    same-length
-    returns-2
-    same-length-2
-    returns-3
-    same-length-3
-    returns-4
-    returns-5)
+    tie.close (tie.spec returns read-packet-requires tell-reading-requires same-length returns-2)

@@ -20,19 +20,20 @@ pub part-length : (body : List ℕ) (position : ℕ) → length (partOf body pos
 unfolding partOf
 part-length body position = simp (length-take, length-drop)
 
--- the part that a writer cuts off: up to 14 bytes further, or to the body's end
-pub part-cut : (body : List ℕ) (position to : ℕ) → 14 * position ≤ length body → to ≡ min (length body) (14 * position + 14)
-    → take (to - 14 * position) (drop (14 * position) body) ≡ partOf body position
+-- the part that a writer cuts off: 14 bytes, or what is left
+pub part-cut : (body : List ℕ) (position len : ℕ) → len ≡ min (length body - 14 * position) 14
+    → take (14 * position + len - 14 * position) (drop (14 * position) body) ≡ partOf body position
 unfolding partOf
-part-cut body position to within cut =
+part-cut body position len cut =
     let rest = drop (14 * position) body in
     let whole : length rest ≡ length body - 14 * position = length-drop (14 * position) body in
-    dite (decLe (14 * position + 14) (length body))
-    (λ full. let e : to - 14 * position ≡ 14 = omega arith in ap (λ (n : ℕ). take n rest) e)
+    let size = 14 * position + len - 14 * position in
+    dite (decLe 14 (length rest))
+    (λ full. let e : size ≡ 14 = omega arith in ap (λ (n : ℕ). take n rest) e)
     (λ last.
-    let short : length rest ≤ to - 14 * position = omega arith in
+    let short : length rest ≤ size = omega arith in
     let less : length rest ≤ 14 = omega arith in
-    take-all (to - 14 * position) rest short ∙ sym (take-all 14 rest less))
+    take-all size rest short ∙ sym (take-all 14 rest less))
 
 -- the first n packets carry the first 14 n bytes, as far as there are any
 pub packets-length : (mid id : ℕ) (body : List ℕ) (n : ℕ) → length (packetsOf mid id body n) ≡ 7 * n + min (14 * n) (length body)

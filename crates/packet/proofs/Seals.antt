@@ -9,6 +9,10 @@ use Rattle.basis.proofs.Bytes.{byte-at, two-behind}
 use Rattle.basis.proofs.Sums.{sum-append}
 use Rattle.packet.specs.Wire.{checkOf, sealed}
 
+-- a byte added with the carry dropped, to a sum whose carries were dropped
+pub added : (n a x r : ℕ) → a ≡ n % 256 → r ≡ (a + x) % 256 → r ≡ (n + x) % 256
+added n a x r ea er = omega arith
+
 -- 00h and the checksum bring the sum to 0
 pub balanced : (front : List ℕ) → sum (sealed front) % 256 ≡ 0
 unfolding sum

@@ -31,34 +31,33 @@ module _ (rows : List Row) (bytes out : List ℕ) where
       { answered = ap Wrote el ∙ ap (λ (k : ℕ). answerOf k bytes) (sym e); left = ea ∙ ap (λ (k : ℕ). bufferOf k bytes out) (sym e) }
 
 module _ (mid id : ℕ) (body out : List ℕ) (some : length body ≡ 0 → ⊥) (most : length body ≤ 84) (normal : id ≤ 0x3F) where
-  module _ (position to : ℕ) (below : position < totalOf body) (cut : to ≡ min (length body) (14 * position + 14)) where
-    -- a packet that is cut off at `to` has that many bytes and seven
-    packet-size : length (packetAt mid id body position) ≡ to - 14 * position + 7
+  module _ (position len : ℕ) (below : position < totalOf body) (cut : len ≡ min (length body - 14 * position) 14) where
+    -- a packet that carries `len` bytes has seven more
+    packet-size : length (packetAt mid id body position) ≡ len + 7
     packet-size =
         omega (arith, packet-length mid id (16 * totalOf body + position) (partOf body position), part-length body position)
 
     -- all that is left to refuse a packet is the room
-    packet-room : firstOf (packetRows mid id body position out) ≡ when (ltb (length out) (to - 14 * position + 7)) 34 0
+    packet-room : firstOf (packetRows mid id body position out) ≡ when (ltb (length out) (len + 7)) 34 0
     packet-room = search (tests, packet-size)
 
-    pub packet-refused : length out < to - 14 * position + 7
+    pub packet-refused : length out < len + 7
         → Writes (packetRows mid id body position out) (packetAt mid id body position) out (Refused 34) out
     packet-refused short =
         refused (packetRows mid id body position out) (packetAt mid id body position) out 33
-        (packet-room ∙ ap (λ (b : Bool). when b 34 0) (lt-ltb (length out) (to - 14 * position + 7) short))
+        (packet-room ∙ ap (λ (b : Bool). when b 34 0) (lt-ltb (length out) (len + 7) short))
 
-    pub packet-wrote : (part after : List ℕ) → to - 14 * position + 7 ≤ length out
-        → part ≡ take (to - 14 * position) (drop (14 * position) body)
+    pub packet-wrote : (part after : List ℕ) → len + 7 ≤ length out
+        → part ≡ take (14 * position + len - 14 * position) (drop (14 * position) body)
         → after ≡ laid (packetOf mid id (16 * totalOf body + position) part) out
-        → Writes (packetRows mid id body position out) (packetAt mid id body position) out (Wrote (to - 14 * position + 7)) after
+        → Writes (packetRows mid id body position out) (packetAt mid id body position) out (Wrote (len + 7)) after
     packet-wrote part after room ep ea =
-        let within : 14 * position ≤ length body = omega arith in
-        wrote (packetRows mid id body position out) (packetAt mid id body position) out (to - 14 * position + 7) after
-        (packet-room ∙ ap (λ (b : Bool). when b 34 0) (le-ltb (length out) (to - 14 * position + 7) room))
+        wrote (packetRows mid id body position out) (packetAt mid id body position) out (len + 7) after
+        (packet-room ∙ ap (λ (b : Bool). when b 34 0) (le-ltb (length out) (len + 7) room))
         (sym packet-size)
         (ea
         ∙ ap (λ (p : List ℕ). laid (packetOf mid id (16 * totalOf body + position) p) out)
-        (ep ∙ part-cut body position to within cut))
+        (ep ∙ part-cut body position len cut))
 
   -- and the same of a transmission
   transmission-room : firstOf (transmissionRows mid id body out)

@@ -1,6 +1,6 @@
 // The checksum ("makes the sum of all bytes 0 modulo 256, by additions that drop the carry").
 ghost use mathlib.Core.Path.{_≡_};
-ghost use Prim.Native.Nat.{_%_};
+ghost use Prim.Native.Nat.{_-_, _%_};
 ghost use Rattle.basis.specs.Bytes.{sum};
 ghost use Rattle.packet.specs.Wire.{checkOf};
 
@@ -17,9 +17,16 @@ pub fn sum_of(bytes: &[u8]) -> u8
     total
 }
 
+// The byte that brings an 8-bit sum to 0.
+pub fn negated(total: u8) -> u8
+    ensures { λ r. ⌜ r ≡ (256 - total) % 256 ⌝ }
+{
+    std::num::wrapping_sub_u8(0, total)
+}
+
 // The byte that brings the sum of these bytes to 0.
 pub fn checksum(bytes: &[u8]) -> u8
     ensures { λ r. ⌜ r ≡ checkOf (now (bytes .entry)) ⌝ }
 {
-    std::num::wrapping_sub_u8(0, sum_of(bytes))
+    negated(sum_of(bytes))
 }

@@ -1,11 +1,11 @@
 // Writes packets into a lent buffer ("The writer gives ..", numbers 31 to 34). A refusal changes no byte, and bytes past
 // the written ones stay.
-use crate::sum::checksum;
+use crate::sum::negated;
 ghost use mathlib.Core.Path.{_≡_};
 ghost use mathlib.Core.List.{[], _∷_};
-ghost use Prim.Native.Nat.{_+_, _≤_, min};
+ghost use Prim.Native.Nat.{_+_, _%_, _≤_, min};
 ghost use lib.ListN.{length, take};
-ghost use Rattle.basis.specs.Bytes.{laid};
+ghost use Rattle.basis.specs.Bytes.{sum, laid};
 ghost use Rattle.packet.specs.Wire.{sealed, packetOf, queryOf, resetOf, packetAt, transmissionOf};
 ghost use Rattle.packet.specs.Write.{Writes, shortBy, packetRows, transmissionRows};
 
@@ -15,14 +15,13 @@ pub enum Written {
     Refused(u8),
 }
 
-// Ends the first `at` bytes of the buffer with 00h and their checksum.
-fn seal(out: &mut [u8], at: usize)
-    requires { ⌜ at + 2 ≤ length (now out) ⌝ }
+// Ends the first `at` bytes of the buffer with 00h and their checksum; their sum is told, so that they are not read again.
+fn seal(total: u8, at: usize, out: &mut [u8])
+    requires { ⌜ (at + 2 ≤ length (now out)) × (total ≡ sum (take at (now out)) % 256) ⌝ }
     ensures { λ _. ⌜ now (out .exit) ≡ laid (sealed (take at (now (out .entry)))) (now (out .entry)) ⌝ }
 {
-    let check = checksum(&out[..at]);
     out[at] = 0;
-    out[at + 1] = check;
+    out[at + 1] = negated(total);
 }
 
 // Lays the five bytes that every packet starts with.
@@ -37,15 +36,44 @@ fn write_front(mid: u8, count: u8, id: u8, fifth: u8, out: &mut [u8])
     out[4] = fifth;
 }
 
+// The 8-bit sum of the five bytes that every packet starts with.
+fn front_sum(mid: u8, count: u8, id: u8, fifth: u8) -> u8
+    ensures { λ r. ⌜ r ≡ sum (mid ∷ 0x7F ∷ count ∷ id ∷ fifth ∷ []) % 256 ⌝ }
+{
+    let total = std::num::wrapping_add_u8(mid, 0x7f);
+    let total = std::num::wrapping_add_u8(total, count);
+    let total = std::num::wrapping_add_u8(total, id);
+    std::num::wrapping_add_u8(total, fifth)
+}
+
+// Lays the data at the buffer's front and gives their 8-bit sum, in one walk over them.
+fn write_data(part: &[u8], out: &mut [u8]) -> u8
+    requires { ⌜ length (now part) ≤ length (now out) ⌝ }
+    ensures { λ _. ⌜ now (out .exit) ≡ laid (now (part .entry)) (now (out .entry)) ⌝ }
+    ensures { λ r. ⌜ r ≡ sum (now (part .entry)) % 256 ⌝ }
+{
+    let mut total: u8 = 0;
+    let mut i = 0;
+    while i < part.len() {
+        let x = part[i];
+        out[i] = x;
+        total = std::num::wrapping_add_u8(total, x);
+        i += 1;
+    }
+    total
+}
+
 // Lays one packet of these fields at the buffer's front.
 fn write_fields(mid: u8, id: u8, fifth: u8, part: &[u8], out: &mut [u8])
     requires { ⌜ (length (now part) ≤ 14) × (length (now part) + 7 ≤ length (now out)) ⌝ }
     ensures { λ _. ⌜ now (out .exit) ≡ laid (packetOf mid id fifth (now (part .entry))) (now (out .entry)) ⌝ }
 {
     let len = part.len();
-    write_front(mid, (len + 7) as u8, id, fifth, out);
-    bytes::copy(part, &mut out[5..]);
-    seal(out, len + 5);
+    let count = (len + 7) as u8;
+    write_front(mid, count, id, fifth, out);
+    let front = front_sum(mid, count, id, fifth);
+    let data = write_data(part, &mut out[5..]);
+    seal(std::num::wrapping_add_u8(front, data), len + 5, out);
 }
 
 // A packet without data: a query or a reset.
@@ -100,8 +128,8 @@ pub fn write_packet(mid: u8, id: u8, body: &[u8], position: u8, out: &mut [u8]) 
         return Written::Refused(33);
     }
     let from = 14 * at;
-    let to = lesser(n, from + 14);
-    let len = to - from;
+    let len = lesser(n - from, 14);
+    let to = from + len;
     if out.len() < len + 7 {
         return Written::Refused(34);
     }

@@ -23,14 +23,14 @@ returns-4 c = search tests
 mul-from : tie.Need-mul-from
 mul-from c = search needs
 
-add-lesser : tie.Need-add-lesser
-add-lesser c = search needs
+sub-lesser : tie.Need-sub-lesser
+sub-lesser c = search needs
 
 lesser-requires : tie.Need-lesser-requires
 lesser-requires c κs = search needs
 
-sub-len : tie.Need-sub-len
-sub-len c = search needs
+add-to : tie.Need-add-to
+add-to c = search needs
 
 add-if5 : tie.Need-add-if5
 add-if5 c = search needs
@@ -94,9 +94,9 @@ write-packet-spec =
     add-total
     returns-4
     mul-from
-    add-lesser
+    sub-lesser
     lesser-requires
-    sub-len
+    add-to
     add-if5
     returns-5
     mul-fifth

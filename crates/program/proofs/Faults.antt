@@ -54,11 +54,11 @@ first-from q p at n r (x ∷ xs) e = go (eqb (wrongOf q p x (firstOf xs)) 0) ref
         let b : at ≡ r = cc in
         (0, omega arith, record { inside = omega arith; here = is ∙ a; some = λ z. eqb-false _ 0 t (a ∙ z); before = λ j h. absurd (omega arith) })
 
-none-from : (q p at n r : ℕ) (ds : List ℕ) → textOf q p at ds ≡ Right n r → (i : ℕ) → i < length ds → behind q p ds i ≡ 0
+none-from : (q p at n r : ℕ) (ds : List ℕ) → textOf q p at ds ≡ Right r n → (i : ℕ) → i < length ds → behind q p ds i ≡ 0
 none-from q p at n r [] e i h = absurd (omega arith)
 none-from q p at n r (x ∷ xs) e i h = go (eqb (wrongOf q p x (firstOf xs)) 0) refl e (λ k j l. none-from p x (at + 1) n r xs k j l) i h
   where
-    go : (t : Bool) → eqb (wrongOf q p x (firstOf xs)) 0 ≡ t → when t (textOf p x (at + 1) xs) (Wrong (wrongOf q p x (firstOf xs)) at) ≡ Right n r → (textOf p x (at + 1) xs ≡ Right n r → (j : ℕ) → j < length xs → behind p x xs j ≡ 0) → (i : ℕ) → i < suc (length xs) → behind q p (x ∷ xs) i ≡ 0
+    go : (t : Bool) → eqb (wrongOf q p x (firstOf xs)) 0 ≡ t → when t (textOf p x (at + 1) xs) (Wrong (wrongOf q p x (firstOf xs)) at) ≡ Right r n → (textOf p x (at + 1) xs ≡ Right r n → (j : ℕ) → j < length xs → behind p x xs j ≡ 0) → (i : ℕ) → i < suc (length xs) → behind q p (x ∷ xs) i ≡ 0
     go true t k rest zero l = ap (wrongOf q p x) (sym (first-is xs)) ∙ eqb-true _ 0 t
     go true t k rest (suc i) l = rest k i (omega arith)
     go false t k rest i l = let z : _≡_ {A = ℕ} 0 1 = cc in absurd (omega arith)
@@ -74,5 +74,5 @@ first-fault at n r ds e =
     (f .0, f .1, f .2 .inside, at-place ds (f .0) ∙ f .2 .here, λ j h. at-place ds j ∙ f .2 .before j h)
 
 -- a right text: no byte is at fault
-pub no-fault : (at n r : ℕ) (ds : List ℕ) → textOf 0 0 at ds ≡ Right n r → (i : ℕ) → i < length ds → wrongAt ds i ≡ 0
+pub no-fault : (at n r : ℕ) (ds : List ℕ) → textOf 0 0 at ds ≡ Right r n → (i : ℕ) → i < length ds → wrongAt ds i ≡ 0
 no-fault at n r ds e i h = at-place ds i ∙ none-from 0 0 at n r ds e i h

@@ -41,7 +41,7 @@ pub record Made (b : List ℕ) (p : ℕ) (c : Command) : Type 0 where
   pub form : Form
   pub letters : ℕ
   pub row : rowAt table (drop p b) ≡ Known (c .kind) form letters
-  pub right : parameterOf form p (p + letters) (paramOf (drop (p + letters) b)) ≡ Right (c .number) (c .next)
+  pub right : parameterOf form p (p + letters) (paramOf (drop (p + letters) b)) ≡ Right (c .next) (c .number)
   pub next : c .next ≡ p + letters + length (paramOf (drop (p + letters) b))
   pub text : TextAt form (p + letters) c
 
@@ -50,14 +50,14 @@ kind-in k (Good c) = c .kind
 kind-in k (Refused n q) = k
 
 right-in : Parameter → Reading → Parameter
-right-in r (Good c) = Right (c .number) (c .next)
+right-in r (Good c) = Right (c .next) (c .number)
 right-in r (Refused n q) = r
 
-command-made : (k : Kind) (f : Form) (at : ℕ) (r : Parameter) (c : Command) → commandOf k f at r ≡ Good c → (k ≡ c .kind) × (r ≡ Right (c .number) (c .next))
+command-made : (k : Kind) (f : Form) (at : ℕ) (r : Parameter) (c : Command) → commandOf k f at r ≡ Good c → (k ≡ c .kind) × (r ≡ Right (c .next) (c .number))
 unfolding kind-in right-in
-command-made k Text at (Right n next) c e = (ap (kind-in k) e, ap (right-in (Right n next)) e)
-command-made k Bare at (Right n next) c e = (ap (kind-in k) e, ap (right-in (Right n next)) e)
-command-made k (Number lo hi most) at (Right n next) c e = (ap (kind-in k) e, ap (right-in (Right n next)) e)
+command-made k Text at (Right next n) c e = (ap (kind-in k) e, ap (right-in (Right next n)) e)
+command-made k Bare at (Right next n) c e = (ap (kind-in k) e, ap (right-in (Right next n)) e)
+command-made k (Number lo hi most) at (Right next n) c e = (ap (kind-in k) e, ap (right-in (Right next n)) e)
 command-made k f at (Wrong n q) c e = let z : _≡_ {A = ℕ} 0 1 = cc in absurd (omega arith)
 
 text-in : Reading → ℕ
@@ -74,10 +74,10 @@ next-in (Refused n q) = 0
 
 command-text : (k : Kind) (f : Form) (at : ℕ) (r : Parameter) (c : Command) → commandOf k f at r ≡ Good c → TextAt f at c
 unfolding text-in len-in next-in
-command-text k Text at (Right n next) c e =
+command-text k Text at (Right next n) c e =
     (sym (ap text-in e), sym (ap len-in e) ∙ ap (λ (x : ℕ). x - at) (ap next-in e))
-command-text k Bare at (Right n next) c e = (sym (ap text-in e), sym (ap len-in e))
-command-text k (Number lo hi most) at (Right n next) c e = (sym (ap text-in e), sym (ap len-in e))
+command-text k Bare at (Right next n) c e = (sym (ap text-in e), sym (ap len-in e))
+command-text k (Number lo hi most) at (Right next n) c e = (sym (ap text-in e), sym (ap len-in e))
 command-text k f at (Wrong n q) c e = let z : _≡_ {A = ℕ} 0 1 = cc in absurd (omega arith)
 
 made-by : (b : List ℕ) (p : ℕ) (c : Command) (r : Row) → rowAt table (drop p b) ≡ r → rowOf b p r ≡ Good c → Made b p c
@@ -140,7 +140,7 @@ ends-within b p c e =
     let g = row-plain (drop p b) (c .kind) (m .form) (m .letters) (m .row) .least in
     omega arith
 
-bare-none : (place at n next : ℕ) (ds : List ℕ) → parameterOf Bare place at ds ≡ Right n next → length ds ≡ 0
+bare-none : (place at n next : ℕ) (ds : List ℕ) → parameterOf Bare place at ds ≡ Right next n → length ds ≡ 0
 bare-none place at n next [] e = refl
 bare-none place at n next (x ∷ ds) e = let z : _≡_ {A = ℕ} 0 1 = cc in absurd (omega arith)
 
@@ -148,7 +148,7 @@ bare-none place at n next (x ∷ ds) e = let z : _≡_ {A = ℕ} 0 1 = cc in abs
 pub bare-ends : (b : List ℕ) (p : ℕ) (c : Command) (m : Made b p c) → m .form ≡ Bare → c .next ≡ p + m .letters
 bare-ends b p c m e =
     let ds = paramOf (drop (p + m .letters) b) in
-    let r = subst (λ (f : Form). parameterOf f p (p + m .letters) ds ≡ Right (c .number) (c .next)) e (m .right) in
+    let r = subst (λ (f : Form). parameterOf f p (p + m .letters) ds ≡ Right (c .next) (c .number)) e (m .right) in
     let z = bare-none p (p + m .letters) (c .number) (c .next) ds r in
     let n = m .next in
     omega arith

@@ -28,9 +28,9 @@ number-wrong lo hi most place at ds h =
     let v = within-parts lo (valueOf 0 ds) hi (r .1) in
     h (c .0) (n .0) (n .1) (v .0) (v .1))
 
-pub number-right : (lo hi most place at : ℕ) (ds : List ℕ) → digits ds ≡ true → 1 ≤ length ds → length ds ≤ most → lo ≤ valueOf 0 ds → valueOf 0 ds ≤ hi → numberOf lo hi most place at ds ≡ Right (valueOf 0 ds) (at + length ds)
+pub number-right : (lo hi most place at : ℕ) (ds : List ℕ) → digits ds ≡ true → 1 ≤ length ds → length ds ≤ most → lo ≤ valueOf 0 ds → valueOf 0 ds ≤ hi → numberOf lo hi most place at ds ≡ Right (at + length ds) (valueOf 0 ds)
 number-right lo hi most place at ds d one few low high =
-    ap (λ (t : Bool). when t (Right (valueOf 0 ds) (at + length ds)) (Wrong 23 place))
+    ap (λ (t : Bool). when t (Right (at + length ds) (valueOf 0 ds)) (Wrong 23 place))
     (and-true _ _ d
     (and-true _ _ (within-true 1 (length ds) most one few) (within-true lo (valueOf 0 ds) hi low high)))
 
@@ -59,7 +59,7 @@ module _ (b : List ℕ) (from at v x : ℕ) (p : Passed b from at v) (ex : x ≡
   pub end-count : x ≡ caret → from + length (paramOf (drop from b)) ≡ at
   end-count h = let e = ap length (param-end b at (sym ex ∙ h)) in let k = p .count in omega arith
 
-  pub end-right : (lo hi most place : ℕ) → x ≡ caret → (at ≡ from → ⊥) → from ≤ at → at ≤ from + most → lo ≤ v → v ≤ hi → Right v at ≡ numberOf lo hi most place from (paramOf (drop from b))
+  pub end-right : (lo hi most place : ℕ) → x ≡ caret → (at ≡ from → ⊥) → from ≤ at → at ≤ from + most → lo ≤ v → v ≤ hi → Right at v ≡ numberOf lo hi most place from (paramOf (drop from b))
   end-right lo hi most place h some after few low high =
       let ds = paramOf (drop from b) in
       let n = end-count h in
@@ -70,8 +70,8 @@ module _ (b : List ℕ) (from at v x : ℕ) (p : Passed b from at v) (ex : x ≡
       let high′ : valueOf 0 ds ≤ hi = omega arith in
       sym
       (number-right lo hi most place from ds (end-good h) one most′ low′ high′
-      ∙ ap (λ (k : ℕ). Right k (from + length ds)) w
-      ∙ ap (λ (k : ℕ). Right v k) n)
+      ∙ ap (λ (k : ℕ). Right (from + length ds) k) w
+      ∙ ap (λ (k : ℕ). Right k v) n)
 
   module _ (h : x ≡ caret → ⊥) where
     step : paramOf (drop at b) ≡ x ∷ paramOf (drop (at + 1) b)

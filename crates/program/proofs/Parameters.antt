@@ -22,7 +22,7 @@ use Rattle.program.proofs.Places.{param-end, param-next}
 
 -- what is not right ends nowhere, and what is ends behind its bytes
 abbrev pub Ends : ℕ → Parameter → Type 0
-Ends end (Right n next) = next ≡ end
+Ends end (Right next n) = next ≡ end
 Ends end (Wrong n q) = Unit {0}
 
 text-ends : (q p at : ℕ) (ds : List ℕ) → Ends (at + length ds) (textOf q p at ds)
@@ -41,7 +41,7 @@ ends Bare place at [] = omega arith
 ends Bare place at (x ∷ xs) = tt
 ends (Number lo hi most) place at ds = go (digits ds and (within 1 (length ds) most and within lo (valueOf 0 ds) hi))
   where
-    go : (t : Bool) → Ends (at + length ds) (when t (Right (valueOf 0 ds) (at + length ds)) (Wrong 23 place))
+    go : (t : Bool) → Ends (at + length ds) (when t (Right (at + length ds) (valueOf 0 ds)) (Wrong 23 place))
     go true = refl
     go false = tt
 
@@ -50,14 +50,14 @@ pub ends-after : (f : Form) (place at : ℕ) (ds : List ℕ) (r : Parameter) →
 ends-after f place at ds r e = go r (rw (← e) at (ends f place at ds))
   where
     go : (r : Parameter) → Ends (at + length ds) r → at ≤ nextOf at r
-    go (Right n next) h = omega arith
+    go (Right next n) h = omega arith
     go (Wrong n q) h = omega arith
 
 -- a parameter of a known form, and a command of a known parameter
 pub by-form : (f g : Form) (place at : ℕ) (ds : List ℕ) (r : Parameter) → f ≡ g → r ≡ parameterOf g place at ds → r ≡ parameterOf f place at ds
 by-form f g place at ds r e h = h ∙ ap (λ (k : Form). parameterOf k place at ds) (sym e)
 
-pub bare-end : (b : List ℕ) (f : Form) (place at x : ℕ) → f ≡ Bare → x ≡ getD b at caret → x ≡ caret → Right 0 at ≡ parameterOf f place at (paramOf (drop at b))
+pub bare-end : (b : List ℕ) (f : Form) (place at x : ℕ) → f ≡ Bare → x ≡ getD b at caret → x ≡ caret → Right at 0 ≡ parameterOf f place at (paramOf (drop at b))
 bare-end b f place at x e ex h = by-form f Bare place at _ _ e (sym (ap (bareOf at) (param-end b at (sym ex ∙ h))))
 
 pub bare-more : (b : List ℕ) (f : Form) (place at x : ℕ) → f ≡ Bare → x ≡ getD b at caret → (x ≡ caret → ⊥) → Wrong 24 at ≡ parameterOf f place at (paramOf (drop at b))
@@ -66,5 +66,5 @@ bare-more b f place at x e ex h = by-form f Bare place at _ _ e (sym (ap (bareOf
 pub command-wrong : (k : Kind) (f : Form) (at : ℕ) (r : Parameter) (n q : ℕ) → r ≡ Wrong n q → Refused n q ≡ commandOf k f at r
 command-wrong k f at r n q e = sym (ap (commandOf k f at) e)
 
-pub command-right : (k : Kind) (f g : Form) (at : ℕ) (r : Parameter) (n next : ℕ) → r ≡ Right n next → f ≡ g → commandOf k g at (Right n next) ≡ commandOf k f at r
-command-right k f g at r n next e t = ap (λ (h : Form). commandOf k h at (Right n next)) (sym t) ∙ ap (commandOf k f at) (sym e)
+pub command-right : (k : Kind) (f g : Form) (at : ℕ) (r : Parameter) (next n : ℕ) → r ≡ Right next n → f ≡ g → commandOf k g at (Right next n) ≡ commandOf k f at r
+command-right k f g at r next n e t = ap (λ (h : Form). commandOf k h at (Right next n)) (sym t) ∙ ap (commandOf k f at) (sym e)

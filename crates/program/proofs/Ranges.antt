@@ -92,7 +92,7 @@ InRange Bare n = n ≡ 0
 InRange (Number lo hi most) n = (lo ≤ n) × (n ≤ hi)
 
 abbrev Ranged : Form → Parameter → Type 0
-Ranged f (Right n next) = InRange f n
+Ranged f (Right next n) = InRange f n
 Ranged f (Wrong n q) = Unit {0}
 
 text-ranged : (q p at : ℕ) (ds : List ℕ) → Ranged Text (textOf q p at ds)
@@ -109,7 +109,7 @@ ranged Bare place at [] = refl
 ranged Bare place at (x ∷ xs) = tt
 ranged (Number lo hi most) place at ds = go (digits ds and (within 1 (length ds) most and within lo (valueOf 0 ds) hi)) refl
   where
-    go : (t : Bool) → digits ds and (within 1 (length ds) most and within lo (valueOf 0 ds) hi) ≡ t → Ranged (Number lo hi most) (when t (Right (valueOf 0 ds) (at + length ds)) (Wrong 23 place))
+    go : (t : Bool) → digits ds and (within 1 (length ds) most and within lo (valueOf 0 ds) hi) ≡ t → Ranged (Number lo hi most) (when t (Right (at + length ds) (valueOf 0 ds)) (Wrong 23 place))
     go true e =
         let r = and-parts (digits ds) _ e .1 in
         within-parts lo (valueOf 0 ds) hi (and-parts (within 1 (length ds) most) _ r .1)
@@ -144,10 +144,10 @@ record Digits (lo hi most n : ℕ) (ds : List ℕ) : Type 0 where
   value : n ≡ valueOf 0 ds
   high : n ≤ hi
 
-digits-shown : (lo hi most place at n next : ℕ) (ds : List ℕ) → numberOf lo hi most place at ds ≡ Right n next → Digits lo hi most n ds
+digits-shown : (lo hi most place at n next : ℕ) (ds : List ℕ) → numberOf lo hi most place at ds ≡ Right next n → Digits lo hi most n ds
 digits-shown lo hi most place at n next ds h = go (digits ds and (within 1 (length ds) most and within lo (valueOf 0 ds) hi)) refl h
   where
-    go : (t : Bool) → digits ds and (within 1 (length ds) most and within lo (valueOf 0 ds) hi) ≡ t → when t (Right (valueOf 0 ds) (at + length ds)) (Wrong 23 place) ≡ Right n next → Digits lo hi most n ds
+    go : (t : Bool) → digits ds and (within 1 (length ds) most and within lo (valueOf 0 ds) hi) ≡ t → when t (Right (at + length ds) (valueOf 0 ds)) (Wrong 23 place) ≡ Right next n → Digits lo hi most n ds
     go true e k =
         let c = and-parts (digits ds) _ e in
         let r = and-parts (within 1 (length ds) most) _ (c .1) in
@@ -179,7 +179,7 @@ loop-digits b p c e k =
     let m = made b p c e in
     let ds = paramOf (drop (p + m .letters) b) in
     let f : m .form ≡ Number 1 99 2 = form-is b p c e ∙ ap formOf k in
-    let r = subst (λ (x : Form). parameterOf x p (p + m .letters) ds ≡ Right (c .number) (c .next)) f (m .right) in
+    let r = subst (λ (x : Form). parameterOf x p (p + m .letters) ds ≡ Right (c .next) (c .number)) f (m .right) in
     let d = two-digits (c .number) ds (digits-shown 1 99 2 p (p + m .letters) (c .number) (c .next) ds r) in
     let n = m .next in
     omega arith

@@ -26,17 +26,17 @@ module _ (q p x n : ℕ) (k : ByteKind) (e : k ≡ kindOf x) where
   wrong-graphic r t i f g = ap (λ (u : Bool). when u 0 24) (sym g ∙ f) ∙ wrong-known Graphic i
 
 -- at a caret or behind the end the text is whole
-pub text-end : (b : List ℕ) (q p i x : ℕ) → x ≡ getD b i caret → x ≡ caret → Right 0 i ≡ textOf q p i (paramOf (drop i b))
+pub text-end : (b : List ℕ) (q p i x : ℕ) → x ≡ getD b i caret → x ≡ caret → Right i 0 ≡ textOf q p i (paramOf (drop i b))
 text-end b q p i x e h = sym (ap (textOf q p i) (param-end b i (sym e ∙ h)))
 
--- one byte of a text: x, with y behind it and the fault w
-module _ (b : List ℕ) (q p i x y w : ℕ) (ex : x ≡ getD b i caret) (h : x ≡ caret → ⊥) (ey : y ≡ getD b (i + 1) caret) (ew : w ≡ wrongOf q p x y) where
+-- one byte of a text: x, with the fault w
+module _ (b : List ℕ) (q p i x w : ℕ) (ex : x ≡ getD b i caret) (h : x ≡ caret → ⊥) (ew : w ≡ wrongOf q p x (getD b (i + 1) caret)) where
   text-step : textOf q p i (paramOf (drop i b)) ≡ when (eqb w 0) (textOf p x (i + 1) (paramOf (drop (i + 1) b))) (Wrong w i)
   text-step =
       let g = getD b i caret in
       let par = paramOf (drop (i + 1) b) in
       let fault : wrongOf q p g (firstOf par) ≡ w =
-      ap (λ (f : ℕ). wrongOf q p g f) (param-first b (i + 1) ∙ sym ey) ∙ ap (λ (k : ℕ). wrongOf q p k y) (sym ex) ∙ sym ew in
+      ap (λ (f : ℕ). wrongOf q p g f) (param-first b (i + 1)) ∙ ap (λ (k : ℕ). wrongOf q p k (getD b (i + 1) caret)) (sym ex) ∙ sym ew in
       ap (textOf q p i) (param-next b i (λ k. h (ex ∙ k)))
       ∙ ap (λ (v : ℕ). when (eqb v 0) (textOf p g (i + 1) par) (Wrong v i)) fault
       ∙ ap (λ (k : ℕ). when (eqb w 0) (textOf p k (i + 1) par) (Wrong w i)) (sym ex)

@@ -21,7 +21,7 @@ use Rattle.program.specs.declared.Reading.the-variants.{Good, Refused}
 
 -- behind a command without parameter nothing stands; a byte there is 24 at that byte
 abbrev pub bareOf : ℕ → List ℕ → Parameter
-bareOf at [] = Right 0 at
+bareOf at [] = Right at 0
 bareOf at (x ∷ xs) = Wrong 24 at
 
 -- a parameter whose bytes stand from `at` on, by the command's form
@@ -32,14 +32,14 @@ parameterOf (Number lo hi most) place at ds = numberOf lo hi most place at ds
 
 -- the place behind a parameter that is right; a given place where it is not
 abbrev pub nextOf : ℕ → Parameter → ℕ
-nextOf other (Right n next) = next
+nextOf other (Right next n) = next
 nextOf other (Wrong n q) = other
 
 -- the command of a kind whose parameter stands from `at` on; what it lacks is 0
 abbrev pub commandOf : Kind → Form → ℕ → Parameter → Reading
-commandOf k Text at (Right n next) = Good (record { kind = k; number = n; text = at; len = next - at; next = next })
-commandOf k Bare at (Right n next) = Good (record { kind = k; number = n; text = 0; len = 0; next = next })
-commandOf k (Number lo hi most) at (Right n next) = Good (record { kind = k; number = n; text = 0; len = 0; next = next })
+commandOf k Text at (Right next n) = Good (record { next = next; number = n; text = at; len = next - at; kind = k })
+commandOf k Bare at (Right next n) = Good (record { next = next; number = n; text = 0; len = 0; kind = k })
+commandOf k (Number lo hi most) at (Right next n) = Good (record { next = next; number = n; text = 0; len = 0; kind = k })
 commandOf k f at (Wrong n q) = Refused n q
 
 -- the command of a row, the caret at a place of the body

@@ -23,5 +23,5 @@ valueOf v (x ∷ xs) = valueOf (v * 10 + (x - 0x30)) xs
 abbrev pub numberOf : (lo hi most place at : ℕ) → List ℕ → Parameter
 numberOf lo hi most place at ds =
     when (digits ds and (within 1 (length ds) most and within lo (valueOf 0 ds) hi))
-    (Right (valueOf 0 ds) (at + length ds))
+    (Right (at + length ds) (valueOf 0 ds))
     (Wrong 23 place)

@@ -43,7 +43,7 @@ wrongOf before last x behind = wrongBy (kindOf x) (mayRun before last) (isLetter
 
 -- a text whose bytes stand from `at` on: the place behind it, or the first byte at fault
 abbrev pub textOf : (before last at : ℕ) → List ℕ → Parameter
-textOf before last at [] = Right 0 at
+textOf before last at [] = Right at 0
 textOf before last at (x ∷ xs) =
     when (eqb (wrongOf before last x (firstOf xs)) 0)
     (textOf last x (at + 1) xs)

@@ -83,15 +83,16 @@ fn may_run(before: u8, last: u8) -> bool
     last == b'G'
 }
 
-// What is wrong with a text's byte among its neighbours: 24, 25, or 0 where nothing is.
-pub fn wrong(before: u8, last: u8, x: u8, behind: u8) -> u8
-    ensures { λ r. ⌜ r ≡ wrongOf before last x behind ⌝ }
+// What is wrong with a text's byte among its neighbours: 24, 25, or 0 where nothing is. The byte behind counts for a tilde alone,
+// and is read only there.
+pub fn wrong(body: &[u8], behind: usize, before: u8, last: u8, x: u8) -> u8
+    ensures { λ r. ⌜ r ≡ wrongOf before last x (getD (now (body .entry)) behind caret) ⌝ }
 {
     let kind = byte_kind(x);
     match kind {
         ByteKind::Plain => 0,
         ByteKind::Tilde => {
-            if is_letter(behind) {
+            if is_letter(byte_at(body, behind)) {
                 return 0;
             }
             25

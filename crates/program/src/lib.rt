@@ -57,19 +57,19 @@ pub enum Row {
     Unknown,
 }
 
-// A parameter read: its number (0 of a text or nothing) and the place behind it, or the refusal and its place.
+// A parameter read: the place behind it and its number (0 of a text or nothing), or the refusal and its place.
 pub enum Parameter {
     Right(usize, usize),
     Wrong(u8, usize),
 }
 
-// One command: what it lacks is 0; `next` is the place behind it.
+// One command: `next` is the place behind it; what it lacks is 0.
 pub struct Command {
-    pub kind: Kind,
+    pub next: usize,
     pub number: usize,
     pub text: usize,
     pub len: usize,
-    pub next: usize,
+    pub kind: Kind,
 }
 
 // What stands at a place: a good command, or the refusal and its place.

@@ -25,7 +25,7 @@ pub fn read_number(body: &[u8], place: usize, from: usize, lo: u8, hi: u8, most:
             if value < least {
                 return Parameter::Wrong(23, place);
             }
-            return Parameter::Right(value, at);
+            return Parameter::Right(at, value);
         }
         if x < b'0' {
             return Parameter::Wrong(23, place);

@@ -26,7 +26,7 @@ fn parameter(body: &[u8], place: usize, from: usize, form: Form) -> Parameter
         Form::Bare => {
             let x = byte_at(body, from);
             if x == CARET {
-                return Parameter::Right(0, from);
+                return Parameter::Right(from, 0);
             }
             Parameter::Wrong(24, from)
         }
@@ -41,27 +41,27 @@ fn command(kind: Kind, form: Form, from: usize, read: Parameter) -> Reading
 {
     match read {
         Parameter::Wrong(n, at) => Reading::Refused(n, at),
-        Parameter::Right(number, next) => match form {
+        Parameter::Right(next, number) => match form {
             Form::Text => Reading::Good(Command {
-                kind,
+                next,
                 number,
                 text: from,
                 len: next - from,
-                next,
+                kind,
             }),
             Form::Bare => Reading::Good(Command {
-                kind,
+                next,
                 number,
                 text: 0,
                 len: 0,
-                next,
+                kind,
             }),
             Form::Number(_, _, _) => Reading::Good(Command {
-                kind,
+                next,
                 number,
                 text: 0,
                 len: 0,
-                next,
+                kind,
             }),
         },
     }

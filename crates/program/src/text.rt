@@ -18,15 +18,15 @@ pub fn read_text(body: &[u8], from: usize) -> Parameter
     loop {
         let x = byte_at(body, at);
         if x == CARET {
-            return Parameter::Right(0, at);
+            return Parameter::Right(at, 0);
         }
-        let behind = byte_at(body, at + 1);
-        let fault = wrong(before, last, x, behind);
+        let behind = at + 1;
+        let fault = wrong(body, behind, before, last, x);
         if fault != 0 {
             return Parameter::Wrong(fault, at);
         }
         before = last;
         last = x;
-        at += 1;
+        at = behind;
     }
 }

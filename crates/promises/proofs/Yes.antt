@@ -116,7 +116,7 @@ parameter-no Bare p at n q (x ∷ ds) e = let z : 24 ≡ n = cc in omega arith
 parameter-no (Number lo hi most) p at n q ds e =
     go (digits ds and (within 1 (length ds) most and within lo (valueOf 0 ds) hi)) (valueOf 0 ds) (at + length ds) e
   where
-    go : (t : Bool) (v w : ℕ) → when t (Right v w) (Wrong 23 p) ≡ Wrong n q → 0 < n
+    go : (t : Bool) (v w : ℕ) → when t (Right w v) (Wrong 23 p) ≡ Wrong n q → 0 < n
     go true v w k = let z : _≡_ {A = ℕ} 0 1 = cc in absurd (omega arith)
     go false v w k = let z : 23 ≡ n = cc in omega arith
 
@@ -126,9 +126,9 @@ unfolding commandAt
 command-no b p n q e = go (rowAt table (drop p b)) e
   where
     by : (k : Kind) (f : Form) (at : ℕ) (x : Parameter) → commandOf k f at x ≡ NoCommand n q → (x ≡ Wrong n q → 0 < n) → 0 < n
-    by k Text at (Right v next) w h = let z : _≡_ {A = ℕ} 0 1 = cc in absurd (omega arith)
-    by k Bare at (Right v next) w h = let z : _≡_ {A = ℕ} 0 1 = cc in absurd (omega arith)
-    by k (Number lo hi most) at (Right v next) w h = let z : _≡_ {A = ℕ} 0 1 = cc in absurd (omega arith)
+    by k Text at (Right next v) w h = let z : _≡_ {A = ℕ} 0 1 = cc in absurd (omega arith)
+    by k Bare at (Right next v) w h = let z : _≡_ {A = ℕ} 0 1 = cc in absurd (omega arith)
+    by k (Number lo hi most) at (Right next v) w h = let z : _≡_ {A = ℕ} 0 1 = cc in absurd (omega arith)
     by k Text at (Wrong m r) w h = let a : m ≡ n = cc in let c : r ≡ q = cc in h (ap (λ (v : ℕ). Wrong v r) a ∙ ap (Wrong n) c)
     by k Bare at (Wrong m r) w h = let a : m ≡ n = cc in let c : r ≡ q = cc in h (ap (λ (v : ℕ). Wrong v r) a ∙ ap (Wrong n) c)
     by k (Number lo hi most) at (Wrong m r) w h = let a : m ≡ n = cc in let c : r ≡ q = cc in h (ap (λ (v : ℕ). Wrong v r) a ∙ ap (Wrong n) c)

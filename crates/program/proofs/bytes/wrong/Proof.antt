@@ -1,5 +1,9 @@
 -- `program::bytes::wrong` meets its contract: in each arm the byte's kind is known, and the callee's test decides the rest.
+use mathlib.Core.Path.{ap, _∙_}
 use mathlib.Core.Bool.{true, false}
+use lib.ListN.{getD}
+use Rattle.program.specs.Bytes.{caret}
+use Rattle.program.specs.Text.{isLetter}
 use Rattle.program.specs.declared.ByteKind.the-variants.{Plain, Forbidden}
 use Rattle.program.proofs.Texts.{wrong-known, wrong-tilde, wrong-graphic}
 use borrow.Author.Needs.{needs}
@@ -15,14 +19,21 @@ enum-told c = search needs
 enum-told-2 : tie.Need-enum-told-2
 enum-told-2 c = search needs
 
+byte-at-requires : tie.Need-byte-at-requires
+byte-at-requires c κs = search needs
+
 is-letter-requires : tie.Need-is-letter-requires
 is-letter-requires c κs = search needs
 
 returns : tie.Need-returns
 returns c =
-    let k = c .before .before .before .before in
-    let a = k .before .args in
-    wrong-tilde (a .before) (a .last) (a .x) (a .behind) (k .byte-kind .result) (k .byte-kind .ensures) (c .before .is-letter .result) true (c .before .before .enum-told2 .given .1) (c .before .is-letter .ensures) (c .if1 .taken)
+    let o = c .before .before in
+    let k = o .before .before .before in
+    let a = k .before .before .args in
+    wrong-tilde (a .before) (a .last) (a .x) (getD (a .body .now) (a .behind) caret) (k .byte-kind .result) (k .byte-kind .ensures) (c .before .is-letter .result) true
+    (o .before .enum-told2 .given .1)
+    (c .before .is-letter .ensures ∙ ap isLetter (o .byte-at .ensures))
+    (c .if1 .taken)
 
 enum-told-3 : tie.Need-enum-told-3
 enum-told-3 c = search needs
@@ -33,8 +44,8 @@ may-run-requires c κs = search needs
 returns-2 : tie.Need-returns-2
 returns-2 c =
     let k = c .before .before .before .before in
-    let a = k .before .args in
-    wrong-graphic (a .before) (a .last) (a .x) (a .behind) (k .byte-kind .result) (k .byte-kind .ensures) (c .before .may-run .result) true (c .before .before .enum-told3 .given .1) (c .before .may-run .ensures) (c .if2 .taken)
+    let a = k .before .before .args in
+    wrong-graphic (a .before) (a .last) (a .x) (getD (a .body .now) (a .behind) caret) (k .byte-kind .result) (k .byte-kind .ensures) (c .before .may-run .result) true (c .before .before .enum-told3 .given .1) (c .before .may-run .ensures) (c .if2 .taken)
 
 enum-told-4 : tie.Need-enum-told-4
 enum-told-4 c = search needs
@@ -42,26 +53,30 @@ enum-told-4 c = search needs
 returns-3 : tie.Need-returns-3
 returns-3 c =
     let k = c .before .before in
-    let a = k .before .args in
-    wrong-known (a .before) (a .last) (a .x) (a .behind) (k .byte-kind .result) (k .byte-kind .ensures) Plain (c .enum-told .given .1)
+    let a = k .before .before .args in
+    wrong-known (a .before) (a .last) (a .x) (getD (a .body .now) (a .behind) caret) (k .byte-kind .result) (k .byte-kind .ensures) Plain (c .enum-told .given .1)
 
 returns-4 : tie.Need-returns-4
 returns-4 c =
-    let k = c .before .before .before .before in
-    let a = k .before .args in
-    wrong-tilde (a .before) (a .last) (a .x) (a .behind) (k .byte-kind .result) (k .byte-kind .ensures) (c .before .is-letter .result) false (c .before .before .enum-told2 .given .1) (c .before .is-letter .ensures) (c .if1 .left)
+    let o = c .before .before in
+    let k = o .before .before .before in
+    let a = k .before .before .args in
+    wrong-tilde (a .before) (a .last) (a .x) (getD (a .body .now) (a .behind) caret) (k .byte-kind .result) (k .byte-kind .ensures) (c .before .is-letter .result) false
+    (o .before .enum-told2 .given .1)
+    (c .before .is-letter .ensures ∙ ap isLetter (o .byte-at .ensures))
+    (c .if1 .left)
 
 returns-5 : tie.Need-returns-5
 returns-5 c =
     let k = c .before .before .before .before in
-    let a = k .before .args in
-    wrong-graphic (a .before) (a .last) (a .x) (a .behind) (k .byte-kind .result) (k .byte-kind .ensures) (c .before .may-run .result) false (c .before .before .enum-told3 .given .1) (c .before .may-run .ensures) (c .if2 .left)
+    let a = k .before .before .args in
+    wrong-graphic (a .before) (a .last) (a .x) (getD (a .body .now) (a .behind) caret) (k .byte-kind .result) (k .byte-kind .ensures) (c .before .may-run .result) false (c .before .before .enum-told3 .given .1) (c .before .may-run .ensures) (c .if2 .left)
 
 returns-6 : tie.Need-returns-6
 returns-6 c =
     let k = c .before .before in
-    let a = k .before .args in
-    wrong-known (a .before) (a .last) (a .x) (a .behind) (k .byte-kind .result) (k .byte-kind .ensures) Forbidden (c .enum-told4 .given .1)
+    let a = k .before .before .args in
+    wrong-known (a .before) (a .last) (a .x) (getD (a .body .now) (a .behind) caret) (k .byte-kind .result) (k .byte-kind .ensures) Forbidden (c .enum-told4 .given .1)
 
 pub wrong-spec : {M : Type 1} → statement M
 wrong-spec =
@@ -70,6 +85,7 @@ wrong-spec =
     byte-kind-requires
     enum-told
     enum-told-2
+    byte-at-requires
     is-letter-requires
     returns
     enum-told-3

@@ -32,14 +32,11 @@ returns c =
     (c .if1 .taken)
     ∙ l .inv
 
-add-byte-at : tie.Need-add-byte-at Inv-loop μ-loop
-add-byte-at c =
+add-behind : tie.Need-add-behind Inv-loop μ-loop
+add-behind c =
     let o = c .before in
     let h = within-body (o .before .before .before .args .body .now) (o .before .loop .at) (λ k. c .if1 .left (o .byte-at .ensures ∙ k)) in
     search needs
-
-byte-at-requires-2 : tie.Need-byte-at-requires-2 Inv-loop μ-loop
-byte-at-requires-2 c κs = search needs
 
 wrong-requires : tie.Need-wrong-requires Inv-loop μ-loop
 wrong-requires c κs = search needs
@@ -47,28 +44,19 @@ wrong-requires c κs = search needs
 returns-2 : tie.Need-returns-2 Inv-loop μ-loop
 returns-2 c =
     let w = c .before in
-    let e = w .before .before in
+    let e = w .before in
     let o = e .before in
     let l = o .before .loop in
-    text-bad (o .before .before .before .args .body .now) (l .before) (l .last) (l .at) (o .byte-at .result) (w .before .byte-at2 .result)
-    (w .wrong .result)
+    text-bad (o .before .before .before .args .body .now) (l .before) (l .last) (l .at) (o .byte-at .result) (w .wrong .result)
     (o .byte-at .ensures)
     (e .if1 .left)
-    (w .before .byte-at2 .ensures)
     (w .wrong .ensures)
     (c .if2 .taken)
     ∙ l .inv
 
-add-at : tie.Need-add-at Inv-loop μ-loop
-add-at c =
-    let e = c .before .before .before in
-    let o = e .before in
-    let h = within-body (o .before .before .before .args .body .now) (o .before .loop .at) (λ k. e .if1 .left (o .byte-at .ensures ∙ k)) in
-    search needs
-
 loop-less : tie.Need-loop-less Inv-loop μ-loop
 loop-less c =
-    let e = c .before .before .before in
+    let e = c .before .before in
     let o = e .before in
     let h = within-body (o .before .before .before .args .body .now) (o .before .loop .at) (λ k. e .if1 .left (o .byte-at .ensures ∙ k)) in
     omega arith
@@ -76,15 +64,15 @@ loop-less c =
 loop-again : tie.Need-loop-again Inv-loop μ-loop
 loop-again c =
     let w = c .before in
-    let e = w .before .before in
+    let e = w .before in
     let o = e .before in
     let l = o .before .loop in
-    sym (text-next (o .before .before .before .args .body .now) (l .before) (l .last) (l .at) (o .byte-at .result) (w .before .byte-at2 .result)
-    (w .wrong .result)
+    sym (text-next (o .before .before .before .args .body .now) (l .before) (l .last) (l .at) (o .byte-at .result) (w .wrong .result)
     (o .byte-at .ensures)
     (e .if1 .left)
-    (w .before .byte-at2 .ensures)
-    (w .wrong .ensures) (c .if2 .left)) ∙ l .inv
+    (w .wrong .ensures)
+    (c .if2 .left))
+    ∙ l .inv
 
 pub read-text-spec : {M : Type 1} → statement M
 read-text-spec =
@@ -95,10 +83,8 @@ read-text-spec =
     loop-holds
     byte-at-requires
     returns
-    add-byte-at
-    byte-at-requires-2
+    add-behind
     wrong-requires
     returns-2
-    add-at
     loop-less
     loop-again)

@@ -175,22 +175,19 @@ or-nowhere Nowhere = refl
 or-nowhere Outside = refl
 or-nowhere (Inside behind number) = refl
 
--- a command passed: what is found with it, and what is looked for behind it
-pub found-next : (b : List ℕ) (q p k : ℕ) (f g : Flow) (s s′ all : Standing) → p < length b → turnAt (get b p) p f ≡ Next k g
-    → orElse s (standFrom q (tokensOf b p) p f) ≡ all → s′ ≡ when (eqb p q) (orElse s (insideOf (opensOf f))) s
-    → orElse s′ (standFrom q (tokensOf b k) k g) ≡ all
-found-next b q p k f g s s′ all h e inv noted = go (eqb p q) refl noted
-  where
-    go : (t : Bool) → eqb p q ≡ t → s′ ≡ when t (orElse s (insideOf (opensOf f))) s → orElse s′ (standFrom q (tokensOf b k) k g) ≡ all
-    go true w n =
-        ap (λ (x : Standing). orElse x (standFrom q (tokensOf b k) k g)) n
-        ∙ or-somewhere (opensOf f) s (standFrom q (tokensOf b k) k g)
-        ∙ ap (orElse s) (sym (stand-here b q p f h (eqb-true p q w)))
-        ∙ inv
-    go false w n =
-        ap (λ (x : Standing). orElse x (standFrom q (tokensOf b k) k g)) n
-        ∙ ap (orElse s) (sym (stand-next b q p k f g h (eqb-false p q w) e))
-        ∙ inv
+-- a command passed: it stood at the place, and what is found with it stands; or it did not, and the place is looked for behind it
+pub found-here : (b : List ℕ) (q p k : ℕ) (f g : Flow) (s s′ all : Standing) → p < length b → orElse s (standFrom q (tokensOf b p) p f) ≡ all
+    → p ≡ q → s′ ≡ orElse s (insideOf (opensOf f)) → orElse s′ (standFrom q (tokensOf b k) k g) ≡ all
+found-here b q p k f g s s′ all h inv w n =
+    ap (λ (x : Standing). orElse x (standFrom q (tokensOf b k) k g)) n
+    ∙ or-somewhere (opensOf f) s (standFrom q (tokensOf b k) k g)
+    ∙ ap (orElse s) (sym (stand-here b q p f h w))
+    ∙ inv
+
+pub found-past : (b : List ℕ) (q p k : ℕ) (f g : Flow) (s s′ all : Standing) → p < length b → turnAt (get b p) p f ≡ Next k g
+    → orElse s (standFrom q (tokensOf b p) p f) ≡ all → (p ≡ q → ⊥) → s′ ≡ s → orElse s′ (standFrom q (tokensOf b k) k g) ≡ all
+found-past b q p k f g s s′ all h e inv w n =
+    ap (λ (x : Standing). orElse x (standFrom q (tokensOf b k) k g)) n ∙ ap (orElse s) (sym (stand-next b q p k f g h w e)) ∙ inv
 
 -- behind the last command nothing more is found
 pub found-all : (b : List ℕ) (q p : ℕ) (f : Flow) (s all : Standing) → length b ≤ p → orElse s (standFrom q (tokensOf b p) p f) ≡ all → s ≡ all

@@ -14,6 +14,7 @@ use Rattle.judge.specs.declared.Verdict.{Verdict}
 use Rattle.judge.specs.declared.Verdict.the-variants.{Finite, Endless, Refused}
 use Rattle.judge.specs.declared.Standing.{Standing}
 use Rattle.judge.specs.declared.Standing.the-variants.{Nowhere, Outside, Inside}
+use Rattle.judge.specs.declared.Walked.{Walked}
 
 -- in the innermost open loop, or outside
 abbrev pub insideOf : List Open → Standing
@@ -42,6 +43,10 @@ abbrev pub ofAccepted : Verdict → Standing → Standing
 ofAccepted Finite s = s
 ofAccepted Endless s = s
 ofAccepted (Refused n p) s = Nowhere
+
+-- a verdict, and where a place that is looked for on the way stands by it
+abbrev pub walkedOf : Verdict → Standing → Walked
+walkedOf v s = record { verdict = v; found = ofAccepted v s }
 
 -- the place q of the body b
 unfoldable pub standOf : List ℕ → ℕ → Standing

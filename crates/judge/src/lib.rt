@@ -2,13 +2,16 @@
 // No public call has a `requires`: each answers for any bytes and any place.
 //   structure  the rule of loops, 26, and which loop stands open       "Loops don't nest. `E` or `F` closes an open `L`. .."
 //   single     one command judged among those before it                "within one, 27, 22, then 23 to 25 .., then 26"
-//   whole      a body judged from the left                             "28 and 21 come first. Then commands from the left; .."
+//   walk       the commands from the left, and a place among them      "Then commands from the left; .. An unclosed `L` is
+//              judged at the end."
+//   whole      a whole body judged                                     "28 and 21 come first."
 //   places     whether a place is at a command, and in which loop      "a place at a command, with the loop place behind the
 //              enclosing `L`", of a sound record
 // specs/Token has a command as the structure of a program sees it, and a body's list of them.
 mod places;
 mod single;
 mod structure;
+mod walk;
 mod whole;
 
 pub use places::stand;
@@ -63,4 +66,10 @@ pub enum Standing {
     Nowhere,
     Outside,
     Inside(usize, usize),
+}
+
+// A body's commands walked: the verdict on them, and where the place looked for stands.
+pub struct Walked {
+    pub verdict: Verdict,
+    pub found: Standing,
 }

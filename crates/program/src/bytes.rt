@@ -3,7 +3,8 @@
 // or after another such byte."
 use crate::ByteKind;
 ghost use mathlib.Core.Path.{_≡_};
-ghost use lib.ListN.{getD};
+ghost use Prim.Native.Nat.{_+_, _<_};
+ghost use lib.ListN.{length, getD};
 ghost use Rattle.program.specs.Bytes.{caret};
 ghost use Rattle.program.specs.Text.{kindOf, isLetter, mayRun, wrongOf};
 
@@ -83,16 +84,17 @@ fn may_run(before: u8, last: u8) -> bool
     last == b'G'
 }
 
-// What is wrong with a text's byte among its neighbours: 24, 25, or 0 where nothing is. The byte behind counts for a tilde alone,
-// and is read only there.
-pub fn wrong(body: &[u8], behind: usize, before: u8, last: u8, x: u8) -> u8
-    ensures { λ r. ⌜ r ≡ wrongOf before last x (getD (now (body .entry)) behind caret) ⌝ }
+// What is wrong with the byte x of a text at `at`, among its neighbours: 24, 25, or 0 where nothing is. The byte behind counts for
+// a tilde alone, and is read only there.
+pub fn wrong(body: &[u8], at: usize, before: u8, last: u8, x: u8) -> u8
+    requires { ⌜ at < length (now body) ⌝ }
+    ensures { λ r. ⌜ r ≡ wrongOf before last x (getD (now (body .entry)) (at + 1) caret) ⌝ }
 {
     let kind = byte_kind(x);
     match kind {
         ByteKind::Plain => 0,
         ByteKind::Tilde => {
-            if is_letter(byte_at(body, behind)) {
+            if is_letter(byte_at(body, at + 1)) {
                 return 0;
             }
             25

@@ -20,13 +20,12 @@ pub fn read_text(body: &[u8], from: usize) -> Parameter
         if x == CARET {
             return Parameter::Right(at, 0);
         }
-        let behind = at + 1;
-        let fault = wrong(body, behind, before, last, x);
+        let fault = wrong(body, at, before, last, x);
         if fault != 0 {
             return Parameter::Wrong(fault, at);
         }
         before = last;
         last = x;
-        at = behind;
+        at += 1;
     }
 }

@@ -1,4 +1,5 @@
 -- `program::bytes::wrong` meets its contract: in each arm the byte's kind is known, and the callee's test decides the rest.
+use Prim.Native.Nat.{_+_}
 use mathlib.Core.Path.{ap, _∙_}
 use mathlib.Core.Bool.{true, false}
 use lib.ListN.{getD}
@@ -19,6 +20,9 @@ enum-told c = search needs
 enum-told-2 : tie.Need-enum-told-2
 enum-told-2 c = search needs
 
+add-byte-at : tie.Need-add-byte-at
+add-byte-at c = let h = c .before .before .before .before .pre in search needs
+
 byte-at-requires : tie.Need-byte-at-requires
 byte-at-requires c κs = search needs
 
@@ -30,7 +34,7 @@ returns c =
     let o = c .before .before in
     let k = o .before .before .before in
     let a = k .before .before .args in
-    wrong-tilde (a .before) (a .last) (a .x) (getD (a .body .now) (a .behind) caret) (k .byte-kind .result) (k .byte-kind .ensures) (c .before .is-letter .result) true
+    wrong-tilde (a .before) (a .last) (a .x) (getD (a .body .now) (a .at + 1) caret) (k .byte-kind .result) (k .byte-kind .ensures) (c .before .is-letter .result) true
     (o .before .enum-told2 .given .1)
     (c .before .is-letter .ensures ∙ ap isLetter (o .byte-at .ensures))
     (c .if1 .taken)
@@ -45,7 +49,7 @@ returns-2 : tie.Need-returns-2
 returns-2 c =
     let k = c .before .before .before .before in
     let a = k .before .before .args in
-    wrong-graphic (a .before) (a .last) (a .x) (getD (a .body .now) (a .behind) caret) (k .byte-kind .result) (k .byte-kind .ensures) (c .before .may-run .result) true (c .before .before .enum-told3 .given .1) (c .before .may-run .ensures) (c .if2 .taken)
+    wrong-graphic (a .before) (a .last) (a .x) (getD (a .body .now) (a .at + 1) caret) (k .byte-kind .result) (k .byte-kind .ensures) (c .before .may-run .result) true (c .before .before .enum-told3 .given .1) (c .before .may-run .ensures) (c .if2 .taken)
 
 enum-told-4 : tie.Need-enum-told-4
 enum-told-4 c = search needs
@@ -54,14 +58,14 @@ returns-3 : tie.Need-returns-3
 returns-3 c =
     let k = c .before .before in
     let a = k .before .before .args in
-    wrong-known (a .before) (a .last) (a .x) (getD (a .body .now) (a .behind) caret) (k .byte-kind .result) (k .byte-kind .ensures) Plain (c .enum-told .given .1)
+    wrong-known (a .before) (a .last) (a .x) (getD (a .body .now) (a .at + 1) caret) (k .byte-kind .result) (k .byte-kind .ensures) Plain (c .enum-told .given .1)
 
 returns-4 : tie.Need-returns-4
 returns-4 c =
     let o = c .before .before in
     let k = o .before .before .before in
     let a = k .before .before .args in
-    wrong-tilde (a .before) (a .last) (a .x) (getD (a .body .now) (a .behind) caret) (k .byte-kind .result) (k .byte-kind .ensures) (c .before .is-letter .result) false
+    wrong-tilde (a .before) (a .last) (a .x) (getD (a .body .now) (a .at + 1) caret) (k .byte-kind .result) (k .byte-kind .ensures) (c .before .is-letter .result) false
     (o .before .enum-told2 .given .1)
     (c .before .is-letter .ensures ∙ ap isLetter (o .byte-at .ensures))
     (c .if1 .left)
@@ -70,13 +74,13 @@ returns-5 : tie.Need-returns-5
 returns-5 c =
     let k = c .before .before .before .before in
     let a = k .before .before .args in
-    wrong-graphic (a .before) (a .last) (a .x) (getD (a .body .now) (a .behind) caret) (k .byte-kind .result) (k .byte-kind .ensures) (c .before .may-run .result) false (c .before .before .enum-told3 .given .1) (c .before .may-run .ensures) (c .if2 .left)
+    wrong-graphic (a .before) (a .last) (a .x) (getD (a .body .now) (a .at + 1) caret) (k .byte-kind .result) (k .byte-kind .ensures) (c .before .may-run .result) false (c .before .before .enum-told3 .given .1) (c .before .may-run .ensures) (c .if2 .left)
 
 returns-6 : tie.Need-returns-6
 returns-6 c =
     let k = c .before .before in
     let a = k .before .before .args in
-    wrong-known (a .before) (a .last) (a .x) (getD (a .body .now) (a .behind) caret) (k .byte-kind .result) (k .byte-kind .ensures) Forbidden (c .enum-told4 .given .1)
+    wrong-known (a .before) (a .last) (a .x) (getD (a .body .now) (a .at + 1) caret) (k .byte-kind .result) (k .byte-kind .ensures) Forbidden (c .enum-told4 .given .1)
 
 pub wrong-spec : {M : Type 1} → statement M
 wrong-spec =
@@ -85,6 +89,7 @@ wrong-spec =
     byte-kind-requires
     enum-told
     enum-told-2
+    add-byte-at
     byte-at-requires
     is-letter-requires
     returns

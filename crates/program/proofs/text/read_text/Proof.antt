@@ -32,14 +32,10 @@ returns c =
     (c .if1 .taken)
     ∙ l .inv
 
-add-behind : tie.Need-add-behind Inv-loop μ-loop
-add-behind c =
-    let o = c .before in
-    let h = within-body (o .before .before .before .args .body .now) (o .before .loop .at) (λ k. c .if1 .left (o .byte-at .ensures ∙ k)) in
-    search needs
-
 wrong-requires : tie.Need-wrong-requires Inv-loop μ-loop
-wrong-requires c κs = search needs
+wrong-requires c κs =
+    let o = c .before in
+    within-body (o .before .before .before .args .body .now) (o .before .loop .at) (λ k. c .if1 .left (o .byte-at .ensures ∙ k))
 
 returns-2 : tie.Need-returns-2 Inv-loop μ-loop
 returns-2 c =
@@ -53,6 +49,13 @@ returns-2 c =
     (w .wrong .ensures)
     (c .if2 .taken)
     ∙ l .inv
+
+add-at : tie.Need-add-at Inv-loop μ-loop
+add-at c =
+    let e = c .before .before in
+    let o = e .before in
+    let h = within-body (o .before .before .before .args .body .now) (o .before .loop .at) (λ k. e .if1 .left (o .byte-at .ensures ∙ k)) in
+    search needs
 
 loop-less : tie.Need-loop-less Inv-loop μ-loop
 loop-less c =
@@ -83,8 +86,8 @@ read-text-spec =
     loop-holds
     byte-at-requires
     returns
-    add-behind
     wrong-requires
     returns-2
+    add-at
     loop-less
     loop-again)

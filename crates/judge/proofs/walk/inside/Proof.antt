@@ -1,11 +1,11 @@
--- `judge::places::inside` meets its contract: each arm knows where judging stands.
+-- `judge::walk::inside` meets its contract: each arm knows where judging stands.
 use mathlib.Core.Path.{sym, ap, _∙_}
 use Rattle.judge.specs.Flow.{opensOf}
 use Rattle.judge.specs.Standing.{insideOf}
 use Rattle.judge.specs.declared.Flow.{Flow}
 use borrow.Author.Needs.{needs}
-use Rattle.judge.proofs.places.inside.Statement.{statement}
-use Rattle.judge.proofs.places.inside.Tie as tie
+use Rattle.judge.proofs.walk.inside.Statement.{statement}
+use Rattle.judge.proofs.walk.inside.Tie as tie
 
 enum-told : tie.Need-enum-told
 enum-told c = search needs

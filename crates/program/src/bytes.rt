@@ -24,17 +24,17 @@ pub fn byte_at(body: &[u8], at: usize) -> u8
     body[at]
 }
 
-// What kind of byte it is within a text.
+// What kind of byte it is within a text. A plain byte, the one that is met most, takes the fewest tests.
 fn byte_kind(x: u8) -> ByteKind
     ensures { λ r. ⌜ r ≡ kindOf x ⌝ }
 {
-    if x < 0x20 {
-        return ByteKind::Forbidden;
-    }
     if x == CARET {
         return ByteKind::Forbidden;
     }
     if x < TILDE {
+        if x < 0x20 {
+            return ByteKind::Forbidden;
+        }
         return ByteKind::Plain;
     }
     if x == TILDE {

@@ -13,22 +13,23 @@ use Rattle.program.specs.Bytes.{tilde}
 abbrev pub fontColumns : ℕ → ℕ
 fontColumns f = when (eqb f 0x44) 6 (when (eqb f 0x64) 7 (when (eqb f 0x42) 8 (when (eqb f 0x62) 9 (when (eqb f 0x43) 5 6))))
 
--- the columns of a byte, the byte before it being last: a tilde and its letter take none, a graphic byte takes one
-abbrev pub columnsOf : (font last x : ℕ) → ℕ
-columnsOf font last x = when (eqb last tilde) 0 (when (eqb x tilde) 0 (when (leb 0x80 x) 1 (fontColumns font)))
+-- the columns of a byte, `each` being those of a character in the font that is on, and last the byte before: a tilde and its
+-- letter take none, a graphic byte takes one
+abbrev pub columnsOf : (each last x : ℕ) → ℕ
+columnsOf each last x = when (eqb last tilde) 0 (when (eqb x tilde) 0 (when (leb 0x80 x) 1 each))
 
--- the font behind a byte: a letter behind a tilde switches to its font, but `G` (47h) leaves the font
-abbrev pub fontOf : (font last x : ℕ) → ℕ
-fontOf font last x = when (eqb last tilde) (when (eqb x 0x47) font x) font
+-- the columns of a character behind a byte: a letter behind a tilde switches to its font, but `G` (47h) leaves the font
+abbrev pub eachOf : (each last x : ℕ) → ℕ
+eachOf each last x = when (eqb last tilde) (when (eqb x 0x47) each (fontColumns x)) each
 
 -- the width of a text from here on
-abbrev pub widthFrom : (font last : ℕ) → List ℕ → ℕ
-widthFrom font last [] = 0
-widthFrom font last (x ∷ xs) = columnsOf font last x + widthFrom (fontOf font last x) x xs
+abbrev pub widthFrom : (each last : ℕ) → List ℕ → ℕ
+widthFrom each last [] = 0
+widthFrom each last (x ∷ xs) = columnsOf each last x + widthFrom (eachOf each last x) x xs
 
--- the width of a text: it starts in `D`, with nothing before it
+-- the width of a text: it starts in `D` (44h), with nothing before it
 abbrev pub widthOf : List ℕ → ℕ
-widthOf s = widthFrom 0x44 0 s
+widthOf s = widthFrom (fontColumns 0x44) 0 s
 
 -- where counting stops: more than any text of a body, which has at most 82 bytes of at most 9 columns
 abbrev pub widest : ℕ

@@ -5,7 +5,7 @@ ghost use mathlib.Core.Path.{_≡_};
 ghost use Prim.Native.Nat.{_+_, _≤_, min};
 ghost use lib.ListN.{take, drop};
 ghost use Rattle.program.specs.Bytes.{tilde};
-ghost use Rattle.measure.specs.Width.{fontColumns, columnsOf, fontOf, widthOf, widest, fitsOf, columnOf};
+ghost use Rattle.measure.specs.Width.{fontColumns, columnsOf, eachOf, widthOf, widest, fitsOf, columnOf};
 
 // The columns of the sign.
 const COLUMNS: usize = 96;
@@ -35,9 +35,9 @@ fn font_columns(font: u8) -> usize
     6
 }
 
-// The columns of one byte of a text, the byte before it being `last`.
-fn columns(font: u8, last: u8, x: u8) -> usize
-    ensures { λ r. ⌜ r ≡ columnsOf font last x ⌝ }
+// The columns of one byte of a text where a character takes `each`, the byte before it being `last`.
+fn columns(each: usize, last: u8, x: u8) -> usize
+    ensures { λ r. ⌜ r ≡ columnsOf each last x ⌝ }
 {
     if last == TILDE {
         return 0;
@@ -48,27 +48,27 @@ fn columns(font: u8, last: u8, x: u8) -> usize
     if 0x80 <= x {
         return 1;
     }
-    font_columns(font)
+    each
 }
 
-// The font that a letter behind a tilde switches to; `G` leaves the font.
-fn switched(font: u8, letter: u8) -> u8
-    ensures { λ r. ⌜ r ≡ fontOf font tilde letter ⌝ }
+// The columns of a character behind a tilde and a letter: those of the letter's font; `G` leaves the font.
+fn switched(each: usize, letter: u8) -> usize
+    ensures { λ r. ⌜ r ≡ eachOf each tilde letter ⌝ }
 {
     if letter == b'G' {
-        return font;
+        return each;
     }
-    letter
+    font_columns(letter)
 }
 
-// The font behind one byte of a text: only a letter behind a tilde switches it.
-fn font_behind(font: u8, last: u8, x: u8) -> u8
-    ensures { λ r. ⌜ r ≡ fontOf font last x ⌝ }
+// The columns of a character behind one byte of a text: only a letter behind a tilde switches the font.
+fn each_behind(each: usize, last: u8, x: u8) -> usize
+    ensures { λ r. ⌜ r ≡ eachOf each last x ⌝ }
 {
     if last == TILDE {
-        return switched(font, x);
+        return switched(each, x);
     }
-    font
+    each
 }
 
 // The sum of two counts of columns, or 1,000 where it is more.
@@ -83,18 +83,19 @@ fn capped(sum: usize, more: usize) -> usize
     all
 }
 
-// The width of a text in columns. It counts to 1,000, which no text of a body comes near.
+// The width of a text in columns. It counts to 1,000, which no text of a body comes near. The font that is on is held as the
+// columns of its characters, so that the table of fonts is asked where the font changes and not at each byte.
 pub fn width(text: &[u8]) -> usize
     ensures { λ r. ⌜ r ≡ min (widthOf (now (text .entry))) widest ⌝ }
 {
     let mut at: usize = 0;
-    let mut font = b'D';
+    let mut each = font_columns(b'D');
     let mut last: u8 = 0;
     let mut sum: usize = 0;
     while at < text.len() {
         let x = text[at];
-        sum = capped(sum, columns(font, last, x));
-        font = font_behind(font, last, x);
+        sum = capped(sum, columns(each, last, x));
+        each = each_behind(each, last, x);
         last = x;
         at += 1;
     }

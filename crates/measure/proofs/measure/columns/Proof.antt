@@ -1,6 +1,5 @@
 -- `measure::columns` meets its contract: at each return the tests that led there are those of `columnsOf`.
 use Rattle.basis.proofs.Tests.{tests}
-use borrow.Author.Needs.{needs}
 use Rattle.measure.proofs.measure.columns.Statement.{statement}
 use Rattle.measure.proofs.measure.columns.Tie as tie
 
@@ -13,11 +12,8 @@ returns-2 c = search tests
 returns-3 : tie.Need-returns-3
 returns-3 c = search tests
 
-font-columns-requires : tie.Need-font-columns-requires
-font-columns-requires c κs = search needs
-
 returns-4 : tie.Need-returns-4
 returns-4 c = search tests
 
 pub columns-spec : {M : Type 1} → statement M
-columns-spec = tie.close (tie.spec returns returns-2 returns-3 font-columns-requires returns-4)
+columns-spec = tie.close (tie.spec returns returns-2 returns-3 returns-4)

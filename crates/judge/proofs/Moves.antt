@@ -7,7 +7,7 @@ use native.Mathlib.Omega.{arith}
 use borrow.Author.Tests.{eqb-true}
 use lib.Dec.{eqb}
 use lib.ListN.{length, drop}
-use Rattle.basis.specs.Choice.{_and_}
+use Rattle.basis.specs.Choice.{when, _and_}
 use Rattle.program.specs.Command.{readOf}
 use Rattle.program.specs.Table.{table, rowAt}
 use Rattle.program.specs.declared.Kind.{Kind}
@@ -16,12 +16,12 @@ use Rattle.program.specs.declared.Form.the-variants.{Text, Bare, Number}
 use Rattle.program.specs.declared.Command.{Command}
 use Rattle.program.specs.declared.Reading.{Reading}
 use Rattle.program.specs.declared.Reading.the-variants.{Good, Refused}
-use Rattle.basis.proofs.Choices.{and-parts}
+use Rattle.basis.proofs.Choices.{and-parts, when-true, when-false}
 use Rattle.program.proofs.Rows.{row-holds}
 use Rattle.program.proofs.Laws.{Made, made, at-least-two, bare-ends}
 use Rattle.judge.specs.Token.{roleOf, Act, Part, act, rep, close, forever, again, Tok, good, bad, sizeOf, partOf, actOf, tokOf, get}
 use Rattle.judge.specs.Structure.{Structure, broken, kept, structureOf, roleIn, opened, Move, stop, go, moved, moveOf}
-use Rattle.judge.specs.Flow.{roomOf, endedOf, opensOf, flowOf, ruleOf, turnOf, hereOf}
+use Rattle.judge.specs.Flow.{roomOf, endedOf, opensOf, flowOf, ruleOf, turnOf, hereOf, heardOf, turnedOf}
 use Rattle.judge.specs.declared.Role.{Role}
 use Rattle.judge.specs.declared.Role.the-variants.{Plain, Repeat, Close, Forever, Again}
 use Rattle.judge.specs.declared.Open.{Open}
@@ -128,3 +128,12 @@ turn-bad b p n q f h e =
 
 pub turn-ended : (b : List ℕ) (p : ℕ) (f : Flow) → endedOf f ≡ true → Stop 27 p ≡ turnOf (moveOf (get b p) (roomOf f) p (endedOf f) (opensOf f))
 turn-ended b p f h = ap (λ (t : Bool). turnOf (moveOf (get b p) (roomOf f) p t (opensOf f))) (sym h)
+
+-- what was read of a body, judged, is the command there judged
+pub turned-is : (b : List ℕ) (p : ℕ) (f : Flow) → turnedOf (readOf b p) p f ≡ turnOf (moveOf (get b p) (roomOf f) p (endedOf f) (opensOf f))
+turned-is b p f = go (endedOf f) refl (readOf b p) refl
+  where
+    go : (t : Bool) → endedOf f ≡ t → (r : Reading) → readOf b p ≡ r → turnedOf r p f ≡ turnOf (moveOf (get b p) (roomOf f) p (endedOf f) (opensOf f))
+    go true w r e = when-true (endedOf f) _ _ w ∙ turn-ended b p f w
+    go false w (Refused n q) e = when-false (endedOf f) _ _ w ∙ turn-bad b p n q f w e
+    go false w (Good c) e = when-false (endedOf f) _ _ w ∙ turn-good b p c e f _ w refl

@@ -4,7 +4,7 @@ use mathlib.Core.Path.{_≡_, refl, sym, ap, subst, _∙_}
 use mathlib.Core.Bool.{Bool, true, false}
 use mathlib.Core.List.{List, [], _∷_}
 use native.Mathlib.Omega.{arith}
-use borrow.Author.Tests.{eq-eqb, ne-eqb, eqb-true, eqb-false, le-leb, leb-true, leb-false, lt-ltb, le-ltb}
+use borrow.Author.Tests.{eq-eqb, ne-eqb, eqb-true, eqb-false, le-leb, leb-true, leb-false, lt-ltb, le-ltb, ltb-false}
 use lib.Dec.{eqb, ltb, leb}
 use lib.ListN.{length, getD}
 use Rattle.basis.specs.Choice.{when, _and_}
@@ -13,8 +13,10 @@ use Rattle.program.specs.Bytes.{caret}
 use Rattle.judge.specs.Token.{Part, act, rep, close, forever, again, Tok, good, bad, sizeOf, get, chain, tokensOf}
 use Rattle.judge.specs.Structure.{Structure, broken, kept, structureOf, roleIn, opened, Move, stop, go, moved, moveOf}
 use Rattle.judge.specs.Flow.{roomOf, endedOf, opensOf, flowOf, turnOf}
-use Rattle.judge.specs.Verdict.{endOf, judge, commandsOf, begunOf, judgeOf}
+use Rattle.judge.specs.Verdict.{endOf, judge, commandsOf, frontOf, judgeOf}
 use Rattle.judge.specs.Standing.{insideOf, stood, standAt, orElse, ofAccepted}
+use Rattle.judge.specs.declared.Opening.{Opening}
+use Rattle.judge.specs.declared.Opening.the-variants.{Begun, Refused as TooSoon}
 use Rattle.judge.specs.declared.Open.{Open}
 use Rattle.judge.specs.declared.Standing.{Standing}
 use Rattle.judge.specs.declared.Standing.the-variants.{Nowhere, Outside, Inside}
@@ -193,24 +195,23 @@ found-past b q p k f g s s′ all h e inv w n =
 pub found-all : (b : List ℕ) (q p : ℕ) (f : Flow) (s all : Standing) → length b ≤ p → orElse s (standFrom q (tokensOf b p) p f) ≡ all → s ≡ all
 found-all b q p f s all h inv = sym (or-nowhere s) ∙ ap (orElse s) (sym (stand-none b q p f h)) ∙ inv
 
--- a body that isn't too long and is not begun is 21, and one that is begun goes by its commands
-pub no-front : (b : List ℕ) → length b ≤ 84 → begunOf b ≡ false → judgeOf b ≡ Refused 21 0
+-- a body is refused by its front, or goes by its commands
+pub front-judged : (b : List ℕ) (n q : ℕ) → frontOf b ≡ TooSoon n q → judgeOf b ≡ Refused n q
 unfolding judgeOf
-no-front b h e =
-    let other : eqb (getD b 0 0) caret ≡ false = sym (ap (λ (t : Bool). t and eqb (getD b 0 0) caret) (le-leb (length b) 84 h)) ∙ e in
-    when-false (ltb 84 (length b)) _ _ (le-ltb 84 (length b) h) ∙ when-false (eqb (getD b 0 0) caret) _ _ other
-
-pub begun-judged : (b : List ℕ) → begunOf b ≡ true → judgeOf b ≡ commandsOf b
-unfolding judgeOf
-begun-judged b e =
-    let p = and-parts (leb (length b) 84) _ e in
-    when-false (ltb 84 (length b)) _ _ (le-ltb 84 (length b) (leb-true (length b) 84 (p .0))) ∙ when-true (eqb (getD b 0 0) caret) _ _ (p .1)
-
--- a body that is not begun has no place
-pub not-begun : (b : List ℕ) (s : Standing) → begunOf b ≡ false → Nowhere ≡ ofAccepted (judgeOf b) s
-unfolding judgeOf
-not-begun b s e = go (leb (length b) 84) refl
+front-judged b n q e = go (ltb 84 (length b)) (eqb (getD b 0 0) caret) e
   where
-    go : (t : Bool) → leb (length b) 84 ≡ t → Nowhere ≡ ofAccepted (judgeOf b) s
-    go true w = sym (ap (λ (v : Verdict). ofAccepted v s) (no-front b (leb-true (length b) 84 w) e))
-    go false w = sym (ap (λ (v : Verdict). ofAccepted v s) (when-true (ltb 84 (length b)) _ _ (lt-ltb 84 (length b) (leb-false (length b) 84 w))))
+    go : (t u : Bool) → when t (TooSoon 28 84) (when u Begun (TooSoon 21 0)) ≡ TooSoon n q
+        → when t (Refused 28 84) (when u (commandsOf b) (Refused 21 0)) ≡ Refused n q
+    go true u w = cc
+    go false true w = let z : _≡_ {A = ℕ} 0 1 = cc in absurd (omega arith)
+    go false false w = cc
+
+pub begun-front : (b : List ℕ) → frontOf b ≡ Begun → (judgeOf b ≡ commandsOf b) × (length b ≤ 84)
+unfolding judgeOf
+begun-front b e = go (ltb 84 (length b)) (eqb (getD b 0 0) caret) refl e
+  where
+    go : (t u : Bool) → ltb 84 (length b) ≡ t → when t (TooSoon 28 84) (when u Begun (TooSoon 21 0)) ≡ Begun
+        → (when t (Refused 28 84) (when u (commandsOf b) (Refused 21 0)) ≡ commandsOf b) × (length b ≤ 84)
+    go true u m w = let z : _≡_ {A = ℕ} 0 1 = cc in absurd (omega arith)
+    go false true m w = (refl, ltb-false 84 (length b) m)
+    go false false m w = let z : _≡_ {A = ℕ} 0 1 = cc in absurd (omega arith)

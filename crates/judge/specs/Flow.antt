@@ -1,10 +1,13 @@
 -- How the code holds where judging stands: at most one loop is open, so three cases carry room, end and open loops.
--- Contracts of private functions cite it, and no public one does.
 use Prim.Native.Nat.{ℕ}
 use mathlib.Core.List.{List, [], _∷_}
 use mathlib.Core.Bool.{Bool, true, false}
+use Rattle.basis.specs.Choice.{when}
 use Rattle.program.specs.declared.Command.{Command}
-use Rattle.judge.specs.Structure.{Structure, broken, kept, Move, stop, go}
+use Rattle.program.specs.declared.Reading.{Reading}
+use Rattle.program.specs.declared.Reading.the-variants.{Good, Refused}
+use Rattle.judge.specs.Token.{roleOf}
+use Rattle.judge.specs.Structure.{Structure, broken, kept, structureOf, Move, stop, go, moved}
 use Rattle.judge.specs.declared.Open.{Open}
 use Rattle.judge.specs.declared.Flow.{Flow}
 use Rattle.judge.specs.declared.Flow.the-variants.{Free, Within, Ended}
@@ -45,3 +48,12 @@ turnOf (go next m e o) = Next next (flowOf e o)
 -- the loop that a command at a place would open
 abbrev pub hereOf : ℕ → Command → Open
 hereOf p c = record { caret = p; behind = c .next; number = c .number }
+
+-- what reading says, and then the rule of loops
+abbrev pub heardOf : Reading → ℕ → Flow → Turn
+heardOf (Refused n q) p f = Stop n q
+heardOf (Good c) p f = turnOf (moved p (c .next) (structureOf (roleOf (c .kind)) (roomOf f) (hereOf p c) (opensOf f)))
+
+-- what was read at a place: 27 comes first
+abbrev pub turnedOf : Reading → ℕ → Flow → Turn
+turnedOf r p f = when (endedOf f) (Stop 27 p) (heardOf r p f)

@@ -11,6 +11,8 @@ use Rattle.program.specs.Bytes.{caret}
 use Rattle.judge.specs.Token.{Tok, tokensOf}
 use Rattle.judge.specs.Structure.{Move, stop, go, moveOf}
 use Rattle.judge.specs.declared.Open.{Open}
+use Rattle.judge.specs.declared.Opening.{Opening}
+use Rattle.judge.specs.declared.Opening.the-variants.{Begun, Refused as TooSoon}
 use Rattle.judge.specs.declared.Verdict.{Verdict}
 use Rattle.judge.specs.declared.Verdict.the-variants.{Finite, Endless, Refused}
 
@@ -33,9 +35,9 @@ judge (t ∷ ts) m p e o = judged (moveOf t m p e o) (λ next m′ e′ o′. ju
 abbrev pub commandsOf : List ℕ → Verdict
 commandsOf b = judge (tokensOf b 0) 1 0 false []
 
--- neither 28 nor 21
-abbrev pub begunOf : List ℕ → Bool
-begunOf b = leb (length b) 84 and eqb (getD b 0 0) caret
+-- what comes before any command: 28, then 21
+abbrev pub frontOf : List ℕ → Opening
+frontOf b = when (ltb 84 (length b)) (TooSoon 28 84) (when (eqb (getD b 0 0) caret) Begun (TooSoon 21 0))
 
 -- a body
 unfoldable pub judgeOf : List ℕ → Verdict

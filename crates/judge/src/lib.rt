@@ -4,17 +4,21 @@
 //   single     one command judged among those before it                "within one, 27, 22, then 23 to 25 .., then 26"
 //   walk       the commands from the left, and a place among them      "Then commands from the left; .. An unclosed `L` is
 //              judged at the end."
-//   whole      a whole body judged                                     "28 and 21 come first."
+//   begin      the refusals before any command                         "28 and 21 come first."
+//   whole      a whole body judged                                     "28 and 21 come first. Then commands from the left"
 //   places     whether a place is at a command, and in which loop      "a place at a command, with the loop place behind the
 //              enclosing `L`", of a sound record
 // specs/Token has a command as the structure of a program sees it, and a body's list of them.
+mod begin;
 mod places;
 mod single;
 mod structure;
 mod walk;
 mod whole;
 
+pub use begin::front;
 pub use places::stand;
+pub use single::turned;
 pub use structure::role as role_of;
 pub use whole::judge;
 
@@ -51,6 +55,12 @@ pub enum Rule {
 pub enum Turn {
     Stop(u8, usize),
     Next(usize, Flow),
+}
+
+// A body's front: its commands can be judged, or it is refused before them.
+pub enum Opening {
+    Begun,
+    Refused(u8, usize),
 }
 
 // A body judged: it comes to an end, it never does, or it is refused by a number and a place.

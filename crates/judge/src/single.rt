@@ -11,7 +11,7 @@ use program::read_command;
 ghost use mathlib.Core.Path.{_≡_};
 ghost use Rattle.judge.specs.Token.{roleOf, get};
 ghost use Rattle.judge.specs.Structure.{moveOf, moved, structureOf};
-ghost use Rattle.judge.specs.Flow.{roomOf, endedOf, opensOf, turnOf, hereOf};
+ghost use Rattle.judge.specs.Flow.{roomOf, endedOf, opensOf, turnOf, hereOf, turnedOf};
 
 // Whether a command here would stand behind an `F` or `R`.
 fn ended(flow: Flow) -> bool
@@ -42,16 +42,23 @@ fn structured(command: Command, place: usize, flow: Flow) -> Turn
     }
 }
 
-// The command at a place, where judging stands so.
-pub fn turn(body: &[u8], place: usize, flow: Flow) -> Turn
-    ensures { λ r. ⌜ r ≡ turnOf (moveOf (get (now (body .entry)) place) (roomOf flow) place (endedOf flow) (opensOf flow)) ⌝ }
+// What was read at a place, where judging stands so.
+pub fn turned(read: Reading, place: usize, flow: Flow) -> Turn
+    ensures { λ r. ⌜ r ≡ turnedOf read place flow ⌝ }
 {
     if ended(flow) {
         return Turn::Stop(27, place);
     }
-    let read = read_command(body, place);
     match read {
         Reading::Refused(n, at) => Turn::Stop(n, at),
         Reading::Good(command) => structured(command, place, flow),
     }
+}
+
+// The command at a place, where judging stands so.
+pub fn turn(body: &[u8], place: usize, flow: Flow) -> Turn
+    ensures { λ r. ⌜ r ≡ turnOf (moveOf (get (now (body .entry)) place) (roomOf flow) place (endedOf flow) (opensOf flow)) ⌝ }
+{
+    let read = read_command(body, place);
+    turned(read, place, flow)
 }

@@ -1,12 +1,15 @@
--- The reckoning's code, command by command: what is added, where a stride stops, goes on and ends, and what a turn takes.
-use Prim.Native.Nat.{ℕ, _+_, _-_, _≤_, _<_, min}
+-- The reckoning's code, command by command: what is added, and where a pass stops, goes on and ends.
+use Prim.Native.Nat.{ℕ, _+_, _≤_, _<_, min}
 use mathlib.Core.List.{List}
 use mathlib.Core.Bool.{true, false}
 use mathlib.Core.Path.{_≡_, refl, sym, ap, _∙_}
+use mathlib.Core.Logic.{dite}
+use native.Mathlib.Decide.{decLt}
 use native.Mathlib.Omega.{arith}
 use lib.ListN.{length, take, drop}
 use Rattle.measure.specs.Width.{widthOf, widest}
 use Rattle.program.specs.Command.{readOf}
+use Rattle.program.proofs.Laws.{starts-within}
 use Rattle.program.specs.declared.Kind.{Kind}
 use Rattle.program.specs.declared.Kind.the-variants.{II, IA, IB, S, L, E, F, R, XS, XF, P, Scans, W, XD, XB, Y}
 use Rattle.program.specs.declared.Command.{Command}
@@ -21,9 +24,8 @@ use Rattle.judge.specs.declared.Role.the-variants.{Plain, Repeat, Close, Foreve
 use Rattle.judge.proofs.Moves.{next-is}
 use Rattle.judge.proofs.Tokens.{tokens-first, tokens-none}
 use Rattle.course.specs.Steps.{saysOf}
-use Rattle.judge.proofs.Values.{get-loop}
-use Rattle.reckon.specs.Reckon.{setsPart, addedOf, plainOf, strideOf, passOf, laterOf, turnOf, loopedOf}
-use Rattle.totals.specs.Totals.{noneOf, costOf, plusOf, timesOf}
+use Rattle.reckon.specs.Reckon.{setsPart, addedOf, plainOf, strideOf, passOf}
+use Rattle.totals.specs.Totals.{costOf, plusOf}
 use Rattle.reckon.specs.declared.reckon.Reckoned.{Reckoned}
 use Rattle.totals.specs.declared.Totals.{Totals}
 use Rattle.machine.proofs.Commands.{says-is}
@@ -123,56 +125,18 @@ stride-none b s n q within e =
 pub stride-ends : (b : List ℕ) (s : Reckoned) → length b ≤ s .place → strideOf (tokensOf b (s .place)) s ≡ s
 stride-ends b s h = ap (λ (ts : List Tok). strideOf ts s) (tokens-none b (s .place) h)
 
--- one pass, where nothing good or something good stands behind its plain commands
-pub pass-none : (b : List ℕ) (s x : Reckoned) (n q : ℕ) → x ≡ strideOf (tokensOf b (s .place)) s → readOf b (x .place) ≡ Refused n q → x ≡ passOf b s
-pass-none b s x n q ex e = ap (λ (t : Tok). addedOf t x) (sym (ap (tokOf b (x .place)) e)) ∙ ap (λ (y : Reckoned). addedOf (get b (y .place)) y) ex
-
-pub pass-good : (b : List ℕ) (s x y : Reckoned) → x ≡ strideOf (tokensOf b (s .place)) s → y ≡ addedOf (get b (x .place)) x → y ≡ passOf b s
-pass-good b s x y ex ey = ey ∙ ap (λ (z : Reckoned). addedOf (get b (z .place)) z) ex
-
--- a loop's first pass, reckoned from these totals
-abbrev pub startOf : Reckoned → Totals → Reckoned
-startOf s t = record { place = s .place; settings = s .settings; totals = t }
-
--- a loop, from its first pass and what each later one costs
-pub looped-is : (b : List ℕ) (n : ℕ) (s f : Reckoned) (z m o v u : Totals) → z ≡ noneOf → f ≡ passOf b (startOf s z) → m ≡ laterOf b (startOf s z)
-    → o ≡ plusOf (s .totals) (f .totals)
-    → v ≡ timesOf (n - 1) m
-    → u ≡ plusOf o v
-    → _≡_ {A = Reckoned} (record { place = f .place; settings = f .settings; totals = u }) (loopedOf b n s)
-looped-is b n s f z m o v u ez ef em eo ev eu =
-    let sum : u ≡ plusOf (plusOf (s .totals) (f .totals)) (timesOf (n - 1) (laterOf b (startOf s z))) =
-    eu ∙ ap (λ (t : Totals). plusOf t v) eo ∙ ap (plusOf (plusOf (s .totals) (f .totals))) (ev ∙ ap (timesOf (n - 1)) em) in
-    ap (λ (t : Totals). record { place = f .place; settings = f .settings; totals = t }) sum
-    ∙ ap (λ (x : Reckoned). record { place = x .place; settings = x .settings; totals = plusOf (plusOf (s .totals) (x .totals)) (timesOf (n - 1) (laterOf b (startOf s z))) }) ef
-    ∙ ap (λ (t : Totals). record { place = passOf b (startOf s t) .place; settings = passOf b (startOf s t) .settings; totals = plusOf (plusOf (s .totals) (passOf b (startOf s t) .totals)) (timesOf (n - 1) (laterOf b (startOf s t))) }) ez
+-- one pass ends where nothing good stands
+pub pass-ends : (b : List ℕ) (s : Reckoned) (n q : ℕ) → readOf b (s .place) ≡ Refused n q → passOf b s ≡ s
+pass-ends b s n q e =
+    let here : strideOf (tokensOf b (s .place)) s ≡ s =
+    dite (decLt (s .place) (length b)) (λ h. stride-none b s n q h e) (λ h. stride-ends b s (omega arith)) in
+    ap (λ (x : Reckoned). addedOf (get b (x .place)) x) here ∙ ap (λ (t : Tok). addedOf t s) (ap (tokOf b (s .place)) e)
 
 module _ (b : List ℕ) (s : Reckoned) (c : Command) (e : readOf b (s .place) ≡ Good c) where
-  -- a turn goes by the role of the command at its place
-  by-role : (ρ : Role) → roleOf (c .kind) ≡ ρ → get b (s .place) ≡ good (partOf ρ (actOf b (s .place) c))
-  by-role ρ h = stands-good b (s .place) c e ∙ ap (λ (x : Role). good (partOf x (actOf b (s .place) c))) h
+  -- it ends with a command of structure
+  pub pass-stops : plainOf (roleOf (c .kind)) ≡ false → passOf b s ≡ addedOf (get b (s .place)) s
+  pass-stops h = ap (λ (x : Reckoned). addedOf (get b (x .place)) x) (stride-stops b s c e (starts-within b (s .place) c e) h)
 
-  pub turn-plain : (y : Reckoned) → roleOf (c .kind) ≡ Plain → y ≡ addedOf (get b (s .place)) s → y ≡ turnOf b (get b (s .place)) s
-  turn-plain y h ey =
-      ey ∙ ap (λ (t : Tok). addedOf t s) (by-role Plain h) ∙ ap (λ (t : Tok). turnOf b t s) (sym (by-role Plain h))
-
-  pub turn-loop : (x y : Reckoned) → roleOf (c .kind) ≡ Repeat → x ≡ addedOf (get b (s .place)) s → y ≡ loopedOf b (c .number) x
-      → y ≡ turnOf b (get b (s .place)) s
-  turn-loop x y h ex ey =
-      ey ∙ ap (loopedOf b (c .number)) (ex ∙ ap (λ (t : Tok). addedOf t s) (by-role Repeat h)) ∙ ap (λ (t : Tok). turnOf b t s) (sym (by-role Repeat h))
-
-  pub turn-count : roleOf (c .kind) ≡ Repeat → 1 ≤ c .number
-  turn-count h = get-loop b (s .place) (c .number) (c .next - s .place) (by-role Repeat h) .least
-
-  pub turn-close : roleOf (c .kind) ≡ Close → record { place = length b; settings = s .settings; totals = s .totals } ≡ turnOf b (get b (s .place)) s
-  turn-close h = ap (λ (t : Tok). turnOf b t s) (sym (by-role Close h))
-
-  pub turn-forever : roleOf (c .kind) ≡ Forever → record { place = length b; settings = s .settings; totals = s .totals } ≡ turnOf b (get b (s .place)) s
-  turn-forever h = ap (λ (t : Tok). turnOf b t s) (sym (by-role Forever h))
-
-  pub turn-again : roleOf (c .kind) ≡ Again → record { place = length b; settings = s .settings; totals = s .totals } ≡ turnOf b (get b (s .place)) s
-  turn-again h = ap (λ (t : Tok). turnOf b t s) (sym (by-role Again h))
-
-pub turn-none : (b : List ℕ) (s : Reckoned) (n q : ℕ) → readOf b (s .place) ≡ Refused n q
-    → record { place = length b; settings = s .settings; totals = s .totals } ≡ turnOf b (get b (s .place)) s
-turn-none b s n q e = ap (λ (t : Tok). turnOf b t s) (sym (ap (tokOf b (s .place)) e))
+  -- and goes on behind a plain one
+  pub pass-goes : plainOf (roleOf (c .kind)) ≡ true → passOf b s ≡ passOf b (addedOf (get b (s .place)) s)
+  pass-goes h = ap (λ (x : Reckoned). addedOf (get b (x .place)) x) (stride-goes b s c e (starts-within b (s .place) c e) h)

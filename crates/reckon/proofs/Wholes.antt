@@ -6,7 +6,7 @@ use native.Mathlib.Omega.{arith}
 use lib.ListN.{length}
 use Rattle.perform.specs.Price.{answerOf}
 use Rattle.perform.specs.declared.settings.Settings.{Settings}
-use Rattle.judge.specs.Token.{Part, act, rep, close, Tok, good, sizeOf, get, chain, tokensOf}
+use Rattle.judge.specs.Token.{Part, act, rep, close, forever, again, Tok, good, bad, sizeOf, get, chain, tokensOf}
 use Rattle.judge.specs.Verdict.{judgeOf}
 use Rattle.judge.specs.declared.Verdict.the-variants.{Finite}
 use Rattle.judge.proofs.Tokens.{tokens-first, get-two}
@@ -18,19 +18,39 @@ use Rattle.judge.proofs.Values.{get-loop}
 use Rattle.course.proofs.Programs.{treeIn, program}
 use Rattle.course.proofs.Runs.{At, past, at-past}
 use Rattle.course.proofs.Theorem.{finite-stands}
-use Rattle.reckon.specs.Reckon.{addedOf, strideOf, passOf, loopedOf, turnOf}
+use Rattle.reckon.specs.Reckon.{addedOf, strideOf, passOf, laterOf}
 use Rattle.totals.specs.Totals.{noneOf, costOf, plusOf, timesOf}
 use Rattle.reckon.specs.Forecast.{pricesOf}
 use Rattle.reckon.specs.declared.reckon.Reckoned.{Reckoned}
 use Rattle.totals.specs.declared.Totals.{Totals}
 use Rattle.totals.proofs.Sums.{totals-are, Within, plus-within, plus-none, plus-one, plus-loop}
 
+-- a loop of n passes behind its `L`, each reckoned from nothing: the first, and the second n - 1 times over
+abbrev pub loopedOf : List ℕ → ℕ → Reckoned → Reckoned
+loopedOf b n s =
+    let start : Reckoned = record { place = s .place; settings = s .settings; totals = noneOf } in
+    let first = passOf b start in
+    record {
+      place = first .place;
+      settings = first .settings;
+      totals = plusOf (plusOf (s .totals) (first .totals)) (timesOf (n - 1) (laterOf b start));
+    }
+
+-- a plain command, or a whole loop; nothing else stands between them in a program that ends
+abbrev pub turnOf : List ℕ → Tok → Reckoned → Reckoned
+turnOf b (good (act a)) s = addedOf (good (act a)) s
+turnOf b (good (rep n z)) s = loopedOf b n (addedOf (good (rep n z)) s)
+turnOf b (good close) s = s
+turnOf b (good forever) s = s
+turnOf b (good again) s = s
+turnOf b (bad n q) s = s
+
 -- what is reckoned behind a block
 abbrev behindBlock : Block → Reckoned → Reckoned
 behindBlock t s = record { place = past t (s .place); settings = leavesOf t (s .settings); totals = plusOf (s .totals) (pricesOf t (s .settings)) }
 
 -- a stride goes by what stands at its place
-stride-at : (b : List ℕ) (s : Reckoned) (c : Part) → s .place < length b → get b (s .place) ≡ good c
+pub stride-at : (b : List ℕ) (s : Reckoned) (c : Part) → s .place < length b → get b (s .place) ≡ good c
     → strideOf (tokensOf b (s .place)) s ≡ strideOf (good c ∷ tokensOf b (s .place + sizeOf c)) s
 stride-at b s c within g =
     ap (λ (ts : List Tok). strideOf ts s) (tokens-first b (s .place) within)
@@ -67,38 +87,29 @@ pub record Left (b : List ℕ) (whole : Totals) (last : Settings) (s : Reckoned)
   pub sums : plusOf (s .totals) (pricesOf rest (s .settings)) ≡ whole
   pub leaves : leavesOf rest (s .settings) ≡ last
 
--- a block ends no earlier than it starts
-past-forward : (t : Block) (p : ℕ) → p ≤ past t p
-past-forward stop p = omega arith
-past-forward (one a t) p = omega (arith, past-forward t (p + a .size))
-past-forward (loop n z body t) p = omega (arith, past-forward body (p + z), past-forward t (past body (p + z) + 2))
-
 module _ (b : List ℕ) (whole : Totals) (last : Settings) where
   -- a turn takes a command or a loop off what is left
   turn-one : (s : Reckoned) (t : Block) (a : _) → At (get b) (length b) (s .place) (flat (one a t) []) → Depth 1 (one a t)
       → plusOf (s .totals) (pricesOf (one a t) (s .settings)) ≡ whole
       → leavesOf (one a t) (s .settings) ≡ last
-      → (Left b whole last (addedOf (good (act a)) s)) × (s .place < addedOf (good (act a)) s .place)
+      → Left b whole last (addedOf (good (act a)) s)
   turn-one s t a h d e l =
-      let σ = setsOf a (s .settings) in (
-        record {
-          rest = t;
-          stands = h .1 .1;
-          deep = d;
-          within = plus-within (s .totals) (costOf (saysOf (act a) (s .settings)));
-          sums = plus-one (s .totals) 1 (priceOf ones t σ) (scans (saysOf (act a) (s .settings))) (priceOf scans t σ) (millis (saysOf (act a) (s .settings)))
-              (priceOf millis t σ)
-              ∙ e;
-          leaves = l;
-        },
-        omega (arith, get-two b (s .place) (act a) (h .1 .0)),
-      )
+      let σ = setsOf a (s .settings) in
+      record {
+        rest = t;
+        stands = h .1 .1;
+        deep = d;
+        within = plus-within (s .totals) (costOf (saysOf (act a) (s .settings)));
+        sums = plus-one (s .totals) 1 (priceOf ones t σ) (scans (saysOf (act a) (s .settings))) (priceOf scans t σ) (millis (saysOf (act a) (s .settings)))
+            (priceOf millis t σ)
+            ∙ e;
+        leaves = l;
+      }
 
   turn-loop : (s : Reckoned) (m z : ℕ) (body t : Block) → At (get b) (length b) (s .place) (flat (loop (suc m) z body t) []) → Depth 1 (loop (suc m) z body t)
       → plusOf (s .totals) (pricesOf (loop (suc m) z body t) (s .settings)) ≡ whole
       → leavesOf (loop (suc m) z body t) (s .settings) ≡ last
-      → (Left b whole last (loopedOf b (suc m) (addedOf (good (rep (suc m) z)) s)))
-      × (s .place < loopedOf b (suc m) (addedOf (good (rep (suc m) z)) s) .place)
+      → Left b whole last (loopedOf b (suc m) (addedOf (good (rep (suc m) z)) s))
   unfolding answerOf
   turn-loop s m z body t h d e l =
       let σ = s .settings in
@@ -116,38 +127,37 @@ module _ (b : List ℕ) (whole : Totals) (last : Settings) where
       ap (λ (x : Reckoned). record { place = x .place; settings = x .settings; totals = plusOf (plusOf (s1 .totals) (x .totals)) (timesOf (suc m - 1) (passOf b (record { place = s1 .place; settings = x .settings; totals = noneOf }) .totals)) }) one-pass
       ∙ ap (λ (x : Reckoned). record { place = first .place; settings = τ; totals = plusOf once (timesOf (suc m - 1) (x .totals)) }) two-pass
       ∙ ap (λ (n : ℕ). record { place = first .place; settings = τ; totals = plusOf once (timesOf n (later .totals)) }) less in
-      subst (λ (x : Reckoned). (Left b whole last x) × (s .place < x .place)) (sym is) (
-        record {
-          rest = t;
-          stands = at-past (get b) (length b) body (close ∷ flat t []) (s .place + z) (h .1 .1) .1 .1;
-          deep = d .1;
-          within = plus-within once (timesOf m (later .totals));
-          sums = plus-loop (s .totals) m 1 (priceOf ones body σ) 1 (priceOf ones body τ) (priceOf ones t τ) 0 (priceOf scans body σ) 0
-              (priceOf scans body τ)
-              (priceOf scans t τ)
-              0
-              (priceOf millis body σ)
-              0
-              (priceOf millis body τ)
-              (priceOf millis t τ)
-              ∙ e;
-          leaves = l;
-        },
-        omega (arith, past-forward body (s .place + z)),
+      subst (Left b whole last) (sym is) (
+      record {
+        rest = t;
+        stands = at-past (get b) (length b) body (close ∷ flat t []) (s .place + z) (h .1 .1) .1 .1;
+        deep = d .1;
+        within = plus-within once (timesOf m (later .totals));
+        sums = plus-loop (s .totals) m 1 (priceOf ones body σ) 1 (priceOf ones body τ) (priceOf ones t τ) 0 (priceOf scans body σ) 0
+            (priceOf scans body τ)
+            (priceOf scans t τ)
+            0
+            (priceOf millis body σ)
+            0
+            (priceOf millis body τ)
+            (priceOf millis t τ)
+            ∙ e;
+        leaves = l;
+      }
       )
 
   -- so a turn keeps what is left in step with the whole
   pub turn-keeps : (s : Reckoned) → s .place < length b → Left b whole last s
-      → (Left b whole last (turnOf b (get b (s .place)) s)) × (s .place < turnOf b (get b (s .place)) s .place)
+      → Left b whole last (turnOf b (get b (s .place)) s)
   turn-keeps s within h = go (h .rest) (h .stands) (h .deep) (h .sums) (h .leaves)
     where
       go : (t : Block) → At (get b) (length b) (s .place) (flat t []) → Depth 1 t → plusOf (s .totals) (pricesOf t (s .settings)) ≡ whole
           → leavesOf t (s .settings) ≡ last
-          → (Left b whole last (turnOf b (get b (s .place)) s)) × (s .place < turnOf b (get b (s .place)) s .place)
+          → Left b whole last (turnOf b (get b (s .place)) s)
       go stop w d e l = absurd (omega arith)
-      go (one a t) w d e l = subst (λ (x : Tok). (Left b whole last (turnOf b x s)) × (s .place < turnOf b x s .place)) (sym (w .1 .0)) (turn-one s t a w d e l)
+      go (one a t) w d e l = subst (λ (x : Tok). Left b whole last (turnOf b x s)) (sym (w .1 .0)) (turn-one s t a w d e l)
       go (loop zero z body t) w d e l = absurd (omega (arith, get-loop b (s .place) zero z (w .1 .0) .least))
-      go (loop (suc m) z body t) w d e l = subst (λ (x : Tok). (Left b whole last (turnOf b x s)) × (s .place < turnOf b x s .place)) (sym (w .1 .0)) (turn-loop s m z body t w d e l)
+      go (loop (suc m) z body t) w d e l = subst (λ (x : Tok). Left b whole last (turnOf b x s)) (sym (w .1 .0)) (turn-loop s m z body t w d e l)
 
   -- and at the end nothing is left
   pub left-none : (s : Reckoned) → length b ≤ s .place → Left b whole last s → (s .totals ≡ whole) × (s .settings ≡ last)

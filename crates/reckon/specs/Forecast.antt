@@ -9,10 +9,12 @@ use Rattle.basis.specs.Choice.{when, _and_, within}
 use Rattle.units.specs.Units.{capped}
 use Rattle.perform.specs.declared.settings.Settings.{Settings}
 use Rattle.perform.specs.declared.price.Performed.{Performed}
-use Rattle.judge.specs.Verdict.{judgeOf}
+use Rattle.judge.specs.Flow.{endedOf, opensOf}
+use Rattle.judge.specs.Verdict.{endOf, judgeOf}
+use Rattle.judge.specs.declared.Flow.{Flow}
 use Rattle.judge.specs.declared.Verdict.{Verdict}
 use Rattle.judge.specs.declared.Verdict.the-variants.{Finite, Endless, Refused}
-use Rattle.course.specs.Price.{ones, scans, millis, priceOf, leavesOf}
+use Rattle.course.specs.Price.{ones, scans, millis, priceOf}
 use Rattle.course.specs.Tree.{Block}
 use Rattle.course.proofs.Programs.{treeIn}
 use Rattle.machine.specs.Step.{stepOf, startedOf}
@@ -22,7 +24,6 @@ use Rattle.machine.specs.declared.Answer.the-variants.{Did, Idle, Refused as Re
 use Rattle.machine.specs.declared.Run.{Run}
 use Rattle.reckon.specs.declared.reckon.Foretold.{Foretold}
 use Rattle.reckon.specs.declared.reckon.Foretold.the-variants.{Ends, Endless as Never, Refused as RefusedForecast}
-use Rattle.reckon.specs.declared.reckon.Priced.{Priced}
 use Rattle.totals.specs.declared.Totals.{Totals}
 
 -- a measure of what a step answered
@@ -64,6 +65,10 @@ forecastOf b pace each =
 abbrev pub pricesOf : Block → Settings → Totals
 pricesOf t σ = totalsOf (capped (priceOf ones t σ)) (capped (priceOf scans t σ)) (capped (priceOf millis t σ))
 
--- what a program that ends costs by two readings of its loops, and the settings that it leaves
-abbrev pub pricedOf : List ℕ → Settings → Priced
-pricedOf b σ = record { totals = pricesOf (treeIn b .block) σ; settings = leavesOf (treeIn b .block) σ }
+-- what is told of a body, by two readings of its loops
+abbrev pub walkedOf : List ℕ → Settings → Foretold
+walkedOf b σ = byVerdict (judgeOf b) (pricesOf (treeIn b .block) σ)
+
+-- what is told where no command is left
+abbrev pub toldOf : Flow → Totals → Foretold
+toldOf f t = byVerdict (endOf (endedOf f) (opensOf f)) t

@@ -1,18 +1,23 @@
--- Reckoning a program command by command: plain commands one behind the other, and a loop by two passes.
+-- Reckoning a program command by command, as it is judged: a loop by its first pass, and by a second for all later ones.
 -- Contracts of private functions cite it, and no public one does.
-use Prim.Native.Nat.{ℕ, _+_, _-_}
+use Prim.Native.Nat.{ℕ, _+_, _-_, _≤_}
 use mathlib.Core.List.{List, [], _∷_}
 use mathlib.Core.Bool.{Bool, true, false}
+use mathlib.Core.Path.{_≡_}
 use lib.Dec.{eqb}
-use lib.ListN.{length}
 use Rattle.basis.specs.Choice.{_and_}
 use Rattle.perform.specs.declared.settings.Settings.{Settings}
 use Rattle.judge.specs.Token.{Part, act, rep, close, forever, again, Tok, good, bad, sizeOf, get, tokensOf}
+use Rattle.judge.specs.Structure.{roleIn}
+use Rattle.judge.specs.declared.Open.{Open}
+use Rattle.judge.specs.declared.Flow.{Flow}
+use Rattle.judge.specs.declared.Flow.the-variants.{Free, Within, Ended}
 use Rattle.judge.specs.declared.Role.{Role}
 use Rattle.judge.specs.declared.Role.the-variants.{Plain, Repeat, Close, Forever, Again}
 use Rattle.course.specs.Steps.{saysOf, setsOf}
 use Rattle.totals.specs.Totals.{noneOf, costOf, plusOf, timesOf}
 use Rattle.reckon.specs.declared.reckon.Reckoned.{Reckoned}
+use Rattle.reckon.specs.declared.walk.Sums.{Sums}
 use Rattle.totals.specs.declared.Totals.{Totals}
 
 -- the settings behind a command
@@ -63,25 +68,47 @@ alikeOf σ τ = eqb (σ .pace) (τ .pace) and eqb (σ .scans) (τ .scans)
 abbrev pub laterOf : List ℕ → Reckoned → Totals
 laterOf b s = passOf b (record { place = s .place; settings = passOf b s .settings; totals = s .totals }) .totals
 
--- a loop of n passes behind its `L`, each reckoned from nothing: the first, and the second n - 1 times over
-abbrev pub loopedOf : List ℕ → ℕ → Reckoned → Reckoned
-loopedOf b n s =
-    let start : Reckoned = record { place = s .place; settings = s .settings; totals = noneOf } in
-    let first = passOf b start in
+-- a loop's pass begins behind its `L`, at the settings there, from nothing
+abbrev pub entryOf : Open → Settings → Reckoned
+entryOf l σ = record { place = l .behind; settings = σ; totals = noneOf }
+
+-- a loop closed behind its first pass: what was summed before it, that pass, and each later one
+abbrev pub closedOf : List ℕ → Open → Reckoned → Settings → Totals → Totals
+closedOf b l first σ before = plusOf (plusOf before (first .totals)) (timesOf (l .number - 1) (laterOf b (entryOf l σ)))
+
+-- an `E`: it closes the loop that is open
+abbrev pub closesOf : List ℕ → Flow → Reckoned → Settings → Totals → Sums
+closesOf b Free here σ before = record { at = here; entry = σ; before = before }
+closesOf b (Within l) here σ before =
     record {
-      place = first .place;
-      settings = first .settings;
-      totals = plusOf (plusOf (s .totals) (first .totals)) (timesOf (n - 1) (laterOf b start));
+      at = record { place = here .place; settings = here .settings; totals = closedOf b l here σ before };
+      entry = σ;
+      before = before;
     }
+closesOf b Ended here σ before = record { at = here; entry = σ; before = before }
 
--- a plain command, or a whole loop; nothing else stands between them in a program that ends
-abbrev pub turnOf : List ℕ → Tok → Reckoned → Reckoned
-turnOf b (good (act a)) s = addedOf (good (act a)) s
-turnOf b (good (rep n z)) s = loopedOf b n (addedOf (good (rep n z)) s)
-turnOf b (good close) s = record { place = length b; settings = s .settings; totals = s .totals }
-turnOf b (good forever) s = record { place = length b; settings = s .settings; totals = s .totals }
-turnOf b (good again) s = record { place = length b; settings = s .settings; totals = s .totals }
-turnOf b (bad n q) s = record { place = length b; settings = s .settings; totals = s .totals }
+-- what a command leaves, `here` being reckoned behind it: an `L` begins anew, and an `E` closes
+abbrev pub takenOf : List ℕ → Role → Flow → Reckoned → Settings → Totals → Sums
+takenOf b Plain f here σ before = record { at = here; entry = σ; before = before }
+takenOf b Repeat f here σ before =
+    record { at = record { place = here .place; settings = here .settings; totals = noneOf }; entry = here .settings; before = here .totals }
+takenOf b Close f here σ before = closesOf b f here σ before
+takenOf b Forever f here σ before = record { at = here; entry = σ; before = before }
+takenOf b Again f here σ before = record { at = here; entry = σ; before = before }
 
-abbrev pub reckonedOf : List ℕ → Settings → Reckoned
-reckonedOf b σ = record { place = 0; settings = σ; totals = noneOf }
+-- a command reckoned, where judging stands so
+abbrev pub summedOf : List ℕ → Tok → Flow → Sums → Sums
+summedOf b (good c) f s = takenOf b (roleIn c) f (addedOf (good c) (s .at)) (s .entry) (s .before)
+summedOf b (bad n q) f s = s
+
+-- the number of a loop that a body can open
+abbrev pub Counts : Open → Type 0
+Counts l = (1 ≤ l .number) × (l .number ≤ 99)
+
+-- behind the first pass of each loop that may be open
+abbrev pub Passed : List ℕ → Flow → Reckoned → Settings → Type 0
+Passed b f here σ = (l : Open) → f ≡ Within l → (here ≡ passOf b (entryOf l σ)) × Counts l
+
+-- within the first pass of each loop that may be open
+abbrev pub Passing : List ℕ → Flow → Sums → Type 0
+Passing b f s = (l : Open) → f ≡ Within l → (passOf b (s .at) ≡ passOf b (entryOf l (s .entry))) × Counts l

@@ -1,9 +1,10 @@
 // The forecast. Answers to 01: "The forecast gives totals of steps, scans and milliseconds (32 bits suffice), or says endless. It
 // should read a loop's commands at most twice", and number 17.
 use crate::Totals;
+use crate::walk::walk;
+use judge::Opening;
 use judge::Role;
-use judge::Verdict;
-use judge::judge;
+use judge::front;
 use judge::role_of;
 use measure::text_width;
 use perform::Settings;
@@ -18,12 +19,10 @@ ghost use lib.ListN.{length, take, drop};
 ghost use Rattle.measure.specs.Width.{widthOf, widest};
 ghost use Rattle.program.specs.Command.{readOf};
 ghost use Rattle.program.specs.declared.Reading.the-variants.{Good};
-ghost use Rattle.judge.specs.Token.{get, tokensOf};
-ghost use Rattle.judge.specs.Verdict.{judgeOf};
-ghost use Rattle.judge.specs.declared.Verdict.the-variants.{Finite};
+ghost use Rattle.judge.specs.Token.{get};
 ghost use Rattle.judge.specs.Token.{roleOf};
-ghost use Rattle.reckon.specs.Forecast.{forecastOf, pricedOf};
-ghost use Rattle.reckon.specs.Reckon.{addedOf, plainOf, strideOf, passOf, alikeOf, laterOf, loopedOf, turnOf};
+ghost use Rattle.reckon.specs.Forecast.{forecastOf};
+ghost use Rattle.reckon.specs.Reckon.{addedOf, plainOf, passOf, alikeOf, laterOf};
 
 // How far a program is reckoned: the place, the settings there, and the totals so far.
 pub struct Reckoned {
@@ -33,7 +32,7 @@ pub struct Reckoned {
 }
 
 // The width of the text of so many bytes at a place of a body, which is only counted where there is a text.
-fn columns(body: &[u8], place: usize, len: usize) -> usize
+pub(crate) fn columns(body: &[u8], place: usize, len: usize) -> usize
     ensures { λ r. ⌜ r ≡ min (widthOf (take len (drop place (now (body .entry))))) widest ⌝ }
 {
     if len == 0 {
@@ -76,39 +75,24 @@ fn plain(kind: Kind) -> bool
     }
 }
 
-// Plain commands up to the next `L`, `E`, `F` or `R`, or the end.
-fn stride(body: &[u8], from: Reckoned) -> Reckoned
-    requires { ⌜ length (now body) ≤ 84 ⌝ }
-    ensures { λ r. ⌜ r ≡ strideOf (tokensOf (now (body .entry)) (from .place)) from ⌝ }
-{
-    let mut at = from;
-    let mut place = at.place;
-    while place < body.len() {
-        let read = read_command(body, place);
-        let Reading::Good(command) = read else {
-            return at;
-        };
-        let kind = command.kind;
-        if !plain(kind) {
-            return at;
-        }
-        at = added(body, command, at);
-        place = at.place;
-    }
-    at
-}
-
 // One pass of a loop: its plain commands from a place on, and the command behind them.
 fn pass(body: &[u8], from: Reckoned) -> Reckoned
     requires { ⌜ length (now body) ≤ 84 ⌝ }
     ensures { λ r. ⌜ r ≡ passOf (now (body .entry)) from ⌝ }
 {
-    let at = stride(body, from);
-    let place = at.place;
-    let read = read_command(body, place);
-    match read {
-        Reading::Refused(_, _) => at,
-        Reading::Good(command) => added(body, command, at),
+    let mut at = from;
+    let mut place = at.place;
+    loop {
+        let read = read_command(body, place);
+        let Reading::Good(command) = read else {
+            return at;
+        };
+        at = added(body, command, at);
+        let kind = command.kind;
+        if !plain(kind) {
+            return at;
+        }
+        place = at.place;
     }
 }
 
@@ -123,7 +107,7 @@ fn alike(one: Settings, other: Settings) -> bool
 }
 
 // What each later pass of a loop costs: as much as the first where that left pace and scans as they were, else it is read again.
-fn later(body: &[u8], start: Reckoned, first: Reckoned) -> Totals
+pub(crate) fn later(body: &[u8], start: Reckoned, first: Reckoned) -> Totals
     requires { ⌜ (length (now body) ≤ 84) × (first ≡ passOf (now body) start) ⌝ }
     ensures { λ r. ⌜ r ≡ laterOf (now (body .entry)) start ⌝ }
 {
@@ -136,81 +120,6 @@ fn later(body: &[u8], start: Reckoned, first: Reckoned) -> Totals
     second.settings = behind;
     let again = pass(body, second);
     again.totals
-}
-
-// A loop of so many passes, behind its `L`: read once, and where its settings change once more for all later passes.
-fn looped(body: &[u8], number: u8, from: Reckoned) -> Reckoned
-    requires { ⌜ (length (now body) ≤ 84) × (1 ≤ number) ⌝ }
-    ensures { λ r. ⌜ r ≡ loopedOf (now (body .entry)) number from ⌝ }
-{
-    let before = from.totals;
-    let mut start = from;
-    start.totals = Totals::none();
-    let first = pass(body, start);
-    let settings = first.settings;
-    let once = first.totals;
-    let again = later(body, start, first);
-    let read = before.plus(once);
-    Reckoned {
-        place: first.place,
-        settings,
-        totals: read.plus(again.times(number - 1)),
-    }
-}
-
-// A plain command, or a whole loop.
-fn turn(body: &[u8], at: Reckoned) -> Reckoned
-    requires { ⌜ length (now body) ≤ 84 ⌝ }
-    ensures { λ r. ⌜ r ≡ turnOf (now (body .entry)) (get (now (body .entry)) (at .place)) at ⌝ }
-{
-    let place = at.place;
-    let mut past = at;
-    past.place = body.len();
-    let read = read_command(body, place);
-    match read {
-        Reading::Refused(_, _) => past,
-        Reading::Good(command) => {
-            let kind = command.kind;
-            let number = command.number as u8;
-            let role = role_of(kind);
-            match role {
-                Role::Plain => added(body, command, at),
-                Role::Repeat => looped(body, number, added(body, command, at)),
-                Role::Close => past,
-                Role::Forever => past,
-                Role::Again => past,
-            }
-        }
-    }
-}
-
-// What a program that ends costs, and the settings behind it.
-pub struct Priced {
-    pub totals: Totals,
-    pub settings: Settings,
-}
-
-// All commands of a program that comes to an end.
-fn reckon(body: &[u8], settings: Settings) -> Priced
-    requires { ⌜ judgeOf (now body) ≡ Finite ⌝ }
-    ensures { λ r. ⌜ r ≡ pricedOf (now (body .entry)) settings ⌝ }
-{
-    let mut at = Reckoned {
-        place: 0,
-        settings,
-        totals: Totals::none(),
-    };
-    let mut place: usize = 0;
-    while place < body.len() {
-        at = turn(body, at);
-        place = at.place;
-    }
-    let totals = at.totals;
-    let last = at.settings;
-    Priced {
-        totals,
-        settings: last,
-    }
 }
 
 // What is told of a program beforehand: the totals until it is Ready, that it never is, or the refusal and its place.
@@ -236,11 +145,10 @@ pub fn forecast(body: &[u8], pace: u8, scans: u8) -> Foretold
     if 6 < scans {
         return Foretold::Refused(17, 0);
     }
-    let verdict = judge(body);
-    match verdict {
-        Verdict::Refused(n, place) => Foretold::Refused(n, place),
-        Verdict::Endless => Foretold::Endless,
-        Verdict::Finite => {
+    let opening = front(body);
+    match opening {
+        Opening::Refused(n, place) => Foretold::Refused(n, place),
+        Opening::Begun => {
             let settings = Settings {
                 pace,
                 scans,
@@ -248,9 +156,7 @@ pub fn forecast(body: &[u8], pace: u8, scans: u8) -> Foretold
                 dim: 16,
                 bright: 0,
             };
-            let priced = reckon(body, settings);
-            let totals = priced.totals;
-            Foretold::Ends(totals)
+            walk(body, settings)
         }
     }
 }

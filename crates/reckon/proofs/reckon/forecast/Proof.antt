@@ -1,11 +1,11 @@
--- `forecast` refuses a setting out of range, goes by the verdict, and tells what was reckoned.
-use mathlib.Core.Path.{sym, ap, _∙_}
+-- `forecast` refuses a setting out of range, then goes by the body's front, and tells what the walk over its commands does.
+use mathlib.Core.Path.{sym, ap, refl, _∙_}
 use Rattle.basis.proofs.Tests.{tests}
-use Rattle.judge.specs.declared.Verdict.the-variants.{Finite}
+use Rattle.judge.specs.Verdict.{judgeOf}
+use Rattle.judge.proofs.Turns.{front-judged}
 use Rattle.reckon.specs.Forecast.{forecastOf, settingsAt}
-use Rattle.reckon.specs.declared.reckon.Foretold.the-variants.{Ends}
-use Rattle.reckon.specs.declared.reckon.Priced.{Priced}
 use Rattle.reckon.proofs.Forecasts.{in-range, settings-sound, tallies-price}
+use Rattle.reckon.proofs.Walks.{told-same}
 use borrow.Author.Needs.{needs}
 use Rattle.reckon.proofs.reckon.forecast.Statement.{statement}
 use Rattle.reckon.proofs.reckon.forecast.Tie as tie
@@ -26,43 +26,33 @@ returns-4 : tie.Need-returns-4
 unfolding forecastOf
 returns-4 c = search tests
 
-judge-requires : tie.Need-judge-requires
-judge-requires c κs = search needs
+front-requires : tie.Need-front-requires
+front-requires c κs = search needs
 
-enum-known-verdict : tie.Need-enum-known-verdict
-enum-known-verdict c = search needs
+enum-known-opening : tie.Need-enum-known-opening
+enum-known-opening c = search needs
 
 enum-told : tie.Need-enum-told
 enum-told c = search needs
 
-enum-told-2 : tie.Need-enum-told-2
-enum-told-2 c = search needs
-
-reckon-requires : tie.Need-reckon-requires
-reckon-requires c κs = sym (c .before .before .judge .ensures) ∙ c .enum-told2 .given .1
+walk-requires : tie.Need-walk-requires
+walk-requires c κs = sym (c .before .before .front .ensures) ∙ c .enum-told .given .1
 
 returns-5 : tie.Need-returns-5
 returns-5 c =
     let a = c .before .before .before .before .before .before .before .before .before .args in
     let b = a .body .now in
-    sym (in-range b (a .pace) (a .scans) (search needs) (search needs) (search needs) (search needs) _ (sym (c .before .before .before .judge .ensures) ∙ c .before .verdict .given .1))
+    let e = front-judged b _ _ (sym (c .before .before .before .front .ensures) ∙ c .before .opening .given .1) in
+    sym (in-range b (a .pace) (a .scans) (search needs) (search needs) (search needs) (search needs) _ e)
 
 returns-6 : tie.Need-returns-6
 returns-6 c =
-    let a = c .before .before .before .before .before .before .before .before .args in
+    let a = c .before .before .before .before .before .before .before .before .before .args in
     let b = a .body .now in
-    sym (in-range b (a .pace) (a .scans) (search needs) (search needs) (search needs) (search needs) _ (sym (c .before .before .judge .ensures) ∙ c .enum-told .given .1))
-
-returns-7 : tie.Need-returns-7
-returns-7 c =
-    let a = c .before .before .before .before .before .before .before .before .before .before .args in
-    let b = a .body .now in
-    let e = sym (c .before .before .before .before .judge .ensures) ∙ c .before .before .enum-told2 .given .1 in
-    let σ = settingsAt (a .pace) (a .scans) in
     let set = settings-sound b (a .pace) (a .scans) (search needs) (search needs) (search needs) (search needs) in
-    ap (λ (x : Priced). Ends (x .totals)) (c .before .reckon .ensures)
-    ∙ ap Ends (tallies-price b e σ set)
-    ∙ sym (in-range b (a .pace) (a .scans) (search needs) (search needs) (search needs) (search needs) Finite e)
+    c .walk .ensures
+    ∙ told-same (judgeOf b) _ _ (λ e. tallies-price b e (settingsAt (a .pace) (a .scans)) set)
+    ∙ sym (in-range b (a .pace) (a .scans) (search needs) (search needs) (search needs) (search needs) (judgeOf b) refl)
 
 pub forecast-spec : {M : Type 1} → statement M
 forecast-spec =
@@ -72,11 +62,9 @@ forecast-spec =
     returns-2
     returns-3
     returns-4
-    judge-requires
-    enum-known-verdict
+    front-requires
+    enum-known-opening
     enum-told
-    enum-told-2
-    reckon-requires
+    walk-requires
     returns-5
-    returns-6
-    returns-7)
+    returns-6)

@@ -1,6 +1,6 @@
 -- Soundness, part by part: which part decides where those before it hold.
 use Prim.Native.Nat.{ℕ, _-_, _≤_, _<_}
-use mathlib.Core.List.{List}
+use mathlib.Core.List.{List, [], _∷_}
 use mathlib.Core.Bool.{true, false}
 use mathlib.Core.Path.{_≡_, refl, sym, ap, _∙_}
 use native.Mathlib.Omega.{arith}
@@ -23,9 +23,16 @@ use Rattle.machine.specs.declared.Loop.{Loop}
 use Rattle.machine.specs.declared.Run.{Run}
 use Rattle.machine.proofs.Reached.{here}
 
--- the unused room, as the code lends it
-pub room-is : (b : List ℕ) (n : ℕ) → length b ≡ 84 → drop n b ≡ take (84 - n) (drop n b)
-room-is b n e = sym (take-all (84 - n) (drop n b) (omega (arith, length-drop n b)))
+-- what is behind the first bytes, as the code lends it
+pub room-is : (b : List ℕ) (n : ℕ) → drop n b ≡ take (length b - n) (drop n b)
+room-is b n = sym (take-all (length b - n) (drop n b) (omega (arith, length-drop n b)))
+
+pub none-left : (b : List ℕ) (n : ℕ) → length b < n → true ≡ zerosOf (drop n b)
+none-left b n h = go (drop n b) (omega (arith, length-drop n b))
+  where
+    go : (xs : List ℕ) → length xs ≤ 0 → true ≡ zerosOf xs
+    go [] z = refl
+    go (x ∷ xs) z = absurd (omega arith)
 
 module _ (r : Run) where
   pub too-long : 84 < r .len → soundOf r ≡ false

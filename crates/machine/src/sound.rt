@@ -7,6 +7,7 @@ use judge::Standing;
 use judge::stand;
 ghost use mathlib.Core.Path.{_≡_};
 ghost use lib.Dec.{eqb};
+ghost use lib.ListN.{drop};
 ghost use Rattle.basis.specs.Choice.{_and_};
 ghost use Rattle.machine.specs.Sound.{zerosOf, restsOf, heldOf, soundOf};
 
@@ -28,6 +29,19 @@ pub fn zeros(bytes: &[u8]) -> bool
         i += 1;
     }
     most == 0
+}
+
+// Whether all bytes behind the first `len` are 0; where all are to be, their number is known to the compiler.
+fn clean(bytes: &[u8], len: usize) -> bool
+    ensures { λ r. ⌜ r ≡ zerosOf (drop len (now (bytes .entry))) ⌝ }
+{
+    if len == 0 {
+        return zeros(bytes);
+    }
+    if bytes.len() < len {
+        return true;
+    }
+    zeros(&bytes[len..])
 }
 
 // Whether places and count are 0, as in a Ready run.
@@ -82,7 +96,7 @@ impl Run {
         if 84 < len {
             return false;
         }
-        if !zeros(&body[len..]) {
+        if !clean(&body, len) {
             return false;
         }
         if !settings.sound() {

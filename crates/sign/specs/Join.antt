@@ -58,16 +58,24 @@ placedOf s c position part = countedOf s (storedOf c position part)
 abbrev pub slotOf : Collection → ℕ → List ℕ
 slotOf c position = take (getD (c .lens) position 0) (drop (14 * position) (c .room))
 
--- same ID, other N: 13; position already held: equal data Repeat, other data 13
+-- other N than the collection's: 13; position already held: equal data Repeat, other data 13
+abbrev pub goesInto : Sign → Collection → ℕ → ℕ → List ℕ → Received
+goesInto s c total position part =
+    when (not (eqb (c .total) total)) (staysOf s (Refused 13))
+    (when (eqb (getD (c .lens) position 0) 0) (placedOf s c position part)
+    (when (sameOf (slotOf c position) part) (staysOf s Repeat) (staysOf s (Refused 13))))
+
+-- a packet of the ID that is being collected
 abbrev pub goesOn : Sign → ℕ → ℕ → List ℕ → Received
-goesOn s total position part =
-    when (not (eqb (s .collection .total) total)) (staysOf s (Refused 13))
-    (when (eqb (getD (s .collection .lens) position 0) 0) (placedOf s (s .collection) position part)
-    (when (sameOf (slotOf (s .collection) position) part) (staysOf s Repeat) (staysOf s (Refused 13))))
+goesOn s total position part = goesInto s (s .collection) total position part
 
 -- none collected, or another ID than the one collected
 abbrev pub beginsOf : Collection → ℕ → Bool
 beginsOf c id = eqb (c .total) 0 or not (eqb (c .id) id)
+
+-- the collection that a packet goes into: a new one where it begins
+abbrev pub takingOf : Collection → ℕ → ℕ → Collection
+takingOf c id total = when (beginsOf c id) (begunOf id total) c
 
 -- the last completed ID: Repeat; Busy: 12; another ID begins; the same goes on
 unfoldable pub joinOf : Sign → ℕ → ℕ → ℕ → List ℕ → Received

@@ -15,8 +15,9 @@ use machine::Run;
 ghost use mathlib.Core.Path.{_≡_};
 ghost use mathlib.Core.Bool.{true};
 ghost use lib.ListN.{length};
+ghost use Rattle.collect.specs.Slots.{slotsOf};
 ghost use Rattle.sign.specs.Sound.{soundOf};
-ghost use Rattle.sign.specs.Join.{staysOf, startsOf, startOf, storesOf, releasedOf, placedOf, goesOn, joinOf, Right, Open, Whole};
+ghost use Rattle.sign.specs.Join.{staysOf, startsOf, startOf, storesOf, releasedOf, placedOf, goesInto, takingOf, joinOf, Right, Open, Whole};
 
 // A run of this body from its first command.
 fn start(body: [u8; 84], len: usize, run: Run) -> Run
@@ -41,6 +42,19 @@ fn starts(verdict: Verdict, body: [u8; 84], len: usize, run: Run) -> Run
         Verdict::Endless => start(body, len, run),
         Verdict::Refused(_, _) => run,
     }
+}
+
+// The collection that a packet of this ID goes into: a new one, where none is collected or another ID is.
+fn taking(collection: Collection, id: u8, total: u8) -> Collection
+    ensures { λ r. ⌜ r ≡ takingOf collection id total ⌝ }
+{
+    if collection.total == 0 {
+        return begun(id, total);
+    }
+    if collection.id != id {
+        return begun(id, total);
+    }
+    collection
 }
 
 impl Sign {
@@ -104,12 +118,11 @@ impl Sign {
         self.released(next)
     }
 
-    // A packet of the ID that is being collected.
-    fn goes_on(self, total: u8, position: usize, part: &[u8]) -> Received
-        requires { ⌜ (soundOf self ≡ true) × Right total position (length (now part)) ⌝ }
-        ensures { λ r. ⌜ r ≡ goesOn self total position (now (part .entry)) ⌝ }
+    // A packet goes into this collection.
+    fn goes_into(self, collection: Collection, total: u8, position: usize, part: &[u8]) -> Received
+        requires { ⌜ (slotsOf (collection .total) 0 (collection .lens) (collection .room) ≡ true) × Right total position (length (now part)) ⌝ }
+        ensures { λ r. ⌜ r ≡ goesInto self collection total position (now (part .entry)) ⌝ }
     {
-        let collection = self.collection;
         let lens = collection.lens;
         let room = collection.room;
         if collection.total != total {
@@ -140,12 +153,6 @@ impl Sign {
         if run.len != 0 {
             return self.stays(Outcome::Refused(12));
         }
-        if collection.total == 0 {
-            return self.placed(begun(id, total), position, part);
-        }
-        if collection.id != id {
-            return self.placed(begun(id, total), position, part);
-        }
-        self.goes_on(total, position, part)
+        self.goes_into(taking(collection, id, total), total, position, part)
     }
 }

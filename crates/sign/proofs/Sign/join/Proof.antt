@@ -1,11 +1,7 @@
--- `join` judges in 01's order: Repeat, 12, begin anew, go on.
+-- `join` judges in 01's order: Repeat, 12, then by the collection that the packet goes into.
 use Rattle.basis.proofs.Tests.{tests}
-use Rattle.sign.proofs.Places.{begun-open, open-there}
 use Rattle.sign.specs.Join.{joinOf}
-use Rattle.collect.specs.Slots.{begunOf}
-use lib.ListN.{length}
-use native.Mathlib.Omega.{arith}
-use mathlib.Core.Path.{_≡_, refl, sym, ap, _∙_}
+use Rattle.sign.proofs.Joining.{taking-slots, join-into}
 use borrow.Author.Needs.{needs}
 use Rattle.sign.proofs.Sign.join.Statement.{statement}
 use Rattle.sign.proofs.Sign.join.Tie as tie
@@ -24,38 +20,18 @@ returns-2 : tie.Need-returns-2
 unfolding joinOf
 returns-2 c = search (tests, c .stays2 .ensures)
 
-begun-requires : tie.Need-begun-requires
-begun-requires c κs = search needs
+taking-requires : tie.Need-taking-requires
+taking-requires c κs = search needs
 
-placed-requires : tie.Need-placed-requires
-placed-requires c κs =
-    let a = c .before .before .before .before .before .before .before .before .before .before .args in
-    open-there (c .begun .result) (begunOf (a .id) (a .total)) (a .position) (length (a .part .now)) (c .begun .ensures)
-    (begun-open (a .id) (a .total) (a .position) (length (a .part .now)) (c .before .before .before .before .before .before .before .before .before .before .pre .1))
+goes-into-requires : tie.Need-goes-into-requires
+goes-into-requires c κs =
+    let a = c .before .before .before .before .before .before .before .before .args in
+    (taking-slots (a .self) (a .id) (a .total) (c .taking .result) (c .before .before .before .before .before .before .before .before .pre .0) (c .taking .ensures), c .before .before .before .before .before .before .before .before .pre .1)
 
 returns-3 : tie.Need-returns-3
-unfolding joinOf
-returns-3 c = search (tests, c .placed .ensures, c .before .begun .ensures)
-
-begun-requires-2 : tie.Need-begun-requires-2
-begun-requires-2 c κs = search needs
-
-placed-requires-2 : tie.Need-placed-requires-2
-placed-requires-2 c κs =
-    let a = c .before .before .before .before .before .before .before .before .before .before .before .before .args in
-    open-there (c .begun2 .result) (begunOf (a .id) (a .total)) (a .position) (length (a .part .now)) (c .begun2 .ensures)
-    (begun-open (a .id) (a .total) (a .position) (length (a .part .now)) (c .before .before .before .before .before .before .before .before .before .before .before .before .pre .1))
-
-returns-4 : tie.Need-returns-4
-unfolding joinOf
-returns-4 c = search (tests, c .placed2 .ensures, c .before .begun2 .ensures)
-
-goes-on-requires : tie.Need-goes-on-requires
-goes-on-requires c κs = search needs
-
-returns-5 : tie.Need-returns-5
-unfolding joinOf
-returns-5 c = search (tests, c .goes-on .ensures)
+returns-3 c =
+    let a = c .before .before .before .before .before .before .before .before .before .args in
+    join-into (a .self) (a .id) (a .total) (a .position) (a .part .now) (c .before .taking .result) (c .goes-into .result) (c .before .before .before .before .before .before .before .before .before .pre .1) (c .before .before .before .before .if1 .left) (search needs) (c .before .taking .ensures) (c .goes-into .ensures)
 
 pub join-spec : {M : Type 1} → statement M
 join-spec =
@@ -65,11 +41,6 @@ join-spec =
     returns
     stays-requires-2
     returns-2
-    begun-requires
-    placed-requires
-    returns-3
-    begun-requires-2
-    placed-requires-2
-    returns-4
-    goes-on-requires
-    returns-5)
+    taking-requires
+    goes-into-requires
+    returns-3)

@@ -1,0 +1,49 @@
+-- `clean` asks of what is behind the first bytes; behind the end is nothing.
+use Prim.Native.Nat.{ℕ, _-_, _≤_}
+use mathlib.Core.List.{List}
+use mathlib.Core.Path.{_≡_, sym, ap, _∙_}
+use native.Mathlib.Omega.{arith}
+use lib.ListN.{length, take, drop, length-drop}
+use lib.Seq.{take-all}
+use Rattle.machine.specs.Sound.{zerosOf}
+use Rattle.machine.proofs.Sounds.{room-is, none-left}
+use borrow.Author.Needs.{needs}
+use Rattle.machine.proofs.sound.clean.Statement.{statement}
+use Rattle.machine.proofs.sound.clean.Tie as tie
+
+zeros-requires : tie.Need-zeros-requires
+zeros-requires c κs = search needs
+
+returns : tie.Need-returns
+returns c = search needs
+
+returns-2 : tie.Need-returns-2
+returns-2 c = none-left (c .before .before .before .args .bytes .now) (c .before .before .before .args .len) (search needs)
+
+sub-zeros : tie.Need-sub-zeros
+sub-zeros c = search needs
+
+part-zeros-start : tie.Need-part-zeros-start
+part-zeros-start c = search needs
+
+part-zeros-end : tie.Need-part-zeros-end
+part-zeros-end c = search needs
+
+zeros-requires-2 : tie.Need-zeros-requires-2
+zeros-requires-2 c κs = search needs
+
+returns-3 : tie.Need-returns-3
+returns-3 c = c .zeros2 .ensures ∙ sym (ap zerosOf (room-is (c .before .before .before .before .before .args .bytes .now) (c .before .before .before .before .before .args .len)))
+
+pub clean-spec : {M : Type 1} → statement M
+clean-spec =
+    tie.close
+    (tie.spec
+    zeros-requires
+    returns
+    returns-2
+    sub-zeros
+    part-zeros-start
+    part-zeros-end
+    zeros-requires-2
+    returns-3)

@@ -10,11 +10,12 @@ use lib.ListN.{length, getD}
 use Rattle.basis.specs.Choice.{when, _and_}
 use Rattle.basis.proofs.Choices.{and-parts, when-true, when-false}
 use Rattle.program.specs.Bytes.{caret}
+use Rattle.program.specs.declared.Reading.{Reading}
 use Rattle.judge.specs.Token.{Part, act, rep, close, forever, again, Tok, good, bad, sizeOf, get, chain, tokensOf}
 use Rattle.judge.specs.Structure.{Structure, broken, kept, structureOf, roleIn, opened, Move, stop, go, moved, moveOf}
 use Rattle.judge.specs.Flow.{roomOf, endedOf, opensOf, flowOf, turnOf}
 use Rattle.judge.specs.Verdict.{endOf, judge, commandsOf, frontOf, judgeOf}
-use Rattle.judge.specs.Standing.{insideOf, stood, standAt, orElse, ofAccepted}
+use Rattle.judge.specs.Standing.{insideOf, stood, standAt, orElse, ofAccepted, seenOf}
 use Rattle.judge.specs.declared.Opening.{Opening}
 use Rattle.judge.specs.declared.Opening.the-variants.{Begun, Refused as TooSoon}
 use Rattle.judge.specs.declared.Open.{Open}
@@ -215,3 +216,15 @@ begun-front b e = go (ltb 84 (length b)) (eqb (getD b 0 0) caret) refl e
     go true u m w = let z : _≡_ {A = ℕ} 0 1 = cc in absurd (omega arith)
     go false true m w = (refl, ltb-false 84 (length b) m)
     go false false m w = let z : _≡_ {A = ℕ} 0 1 = cc in absurd (omega arith)
+
+-- what stands nowhere stands nowhere by any verdict
+pub accepted-nowhere : (v : Verdict) (s : Standing) → s ≡ Nowhere → ofAccepted v s ≡ Nowhere
+accepted-nowhere Finite s e = e
+accepted-nowhere Endless s e = e
+accepted-nowhere (Refused n q) s e = refl
+
+-- what is read where a place stands somewhere
+pub seen-is : (s : Standing) (r x : Reading) (q : ℕ) → ((s ≡ Nowhere → ⊥) → r ≡ x) → seenOf s r q ≡ seenOf s x q
+seen-is Nowhere r x q h = refl
+seen-is Outside r x q h = h (λ e. let z : _≡_ {A = ℕ} 0 1 = cc in omega arith)
+seen-is (Inside behind number) r x q h = h (λ e. let z : _≡_ {A = ℕ} 0 1 = cc in omega arith)

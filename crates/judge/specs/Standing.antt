@@ -6,6 +6,9 @@ use mathlib.Core.List.{List, [], _∷_}
 use mathlib.Core.Bool.{Bool, true, false}
 use lib.Dec.{eqb}
 use Rattle.basis.specs.Choice.{when}
+use Rattle.program.specs.Command.{readOf}
+use Rattle.program.specs.declared.Reading.{Reading}
+use Rattle.program.specs.declared.Reading.the-variants.{Refused as Wrong}
 use Rattle.judge.specs.Token.{Tok, tokensOf}
 use Rattle.judge.specs.Structure.{Move, stop, go, moveOf}
 use Rattle.judge.specs.Verdict.{judgeOf}
@@ -15,6 +18,7 @@ use Rattle.judge.specs.declared.Verdict.the-variants.{Finite, Endless, R
 use Rattle.judge.specs.declared.Standing.{Standing}
 use Rattle.judge.specs.declared.Standing.the-variants.{Nowhere, Outside, Inside}
 use Rattle.judge.specs.declared.Walked.{Walked}
+use Rattle.judge.specs.declared.Found.{Found}
 
 -- in the innermost open loop, or outside
 abbrev pub insideOf : List Open → Standing
@@ -44,13 +48,23 @@ ofAccepted Finite s = s
 ofAccepted Endless s = s
 ofAccepted (Refused n p) s = Nowhere
 
--- a verdict, and where a place that is looked for on the way stands by it
-abbrev pub walkedOf : Verdict → Standing → Walked
-walkedOf v s = record { verdict = v; found = ofAccepted v s }
+-- a verdict, and where a place that is looked for on the way stands by it, with what was read there
+abbrev pub walkedOf : Verdict → Standing → Reading → Walked
+walkedOf v s r = record { verdict = v; found = ofAccepted v s; read = r }
 
 -- the place q of the body b
 unfoldable pub standOf : List ℕ → ℕ → Standing
 standOf b q = ofAccepted (judgeOf b) (standAt q (tokensOf b 0) 1 0 false [])
+
+-- what is read at a place that stands so: 22 where it stands nowhere
+abbrev pub seenOf : Standing → Reading → ℕ → Reading
+seenOf Nowhere r q = Wrong 22 q
+seenOf Outside r q = r
+seenOf (Inside behind number) r q = r
+
+-- the place with what is read there
+abbrev pub foundOf : List ℕ → ℕ → Found
+foundOf b q = record { standing = standOf b q; read = seenOf (standOf b q) (readOf b q) q }
 
 -- a standing in the record's words: the loop place and the loop's number, both 0 outside
 abbrev pub loopPlaceOf : Standing → ℕ

@@ -17,7 +17,9 @@ mod walk;
 mod whole;
 
 pub use begin::front;
+pub use places::find;
 pub use places::stand;
+use program::Reading;
 pub use single::turned;
 pub use structure::role as role_of;
 pub use whole::judge;
@@ -82,4 +84,11 @@ pub enum Standing {
 pub struct Walked {
     pub verdict: Verdict,
     pub found: Standing,
+    pub read: Reading,
+}
+
+// A place found: where it stands, and what is read there.
+pub struct Found {
+    pub standing: Standing,
+    pub read: Reading,
 }

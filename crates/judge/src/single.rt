@@ -7,10 +7,9 @@ use crate::structure::role;
 use crate::structure::rule;
 use program::Command;
 use program::Reading;
-use program::read_command;
 ghost use mathlib.Core.Path.{_≡_};
-ghost use Rattle.judge.specs.Token.{roleOf, get};
-ghost use Rattle.judge.specs.Structure.{moveOf, moved, structureOf};
+ghost use Rattle.judge.specs.Token.{roleOf};
+ghost use Rattle.judge.specs.Structure.{moved, structureOf};
 ghost use Rattle.judge.specs.Flow.{roomOf, endedOf, opensOf, turnOf, hereOf, turnedOf};
 
 // Whether a command here would stand behind an `F` or `R`.
@@ -53,12 +52,4 @@ pub fn turned(read: Reading, place: usize, flow: Flow) -> Turn
         Reading::Refused(n, at) => Turn::Stop(n, at),
         Reading::Good(command) => structured(command, place, flow),
     }
-}
-
-// The command at a place, where judging stands so.
-pub fn turn(body: &[u8], place: usize, flow: Flow) -> Turn
-    ensures { λ r. ⌜ r ≡ turnOf (moveOf (get (now (body .entry)) place) (roomOf flow) place (endedOf flow) (opensOf flow)) ⌝ }
-{
-    let read = read_command(body, place);
-    turned(read, place, flow)
 }

@@ -1,4 +1,5 @@
-// A body's commands walked from the left, once for both that are asked of them: the verdict, and where a place stands. Answers to
+// A body's commands walked from the left, once for all that is asked of them: the verdict, and where a place stands and what is read
+// there. Answers to
 // 01: "Then commands from the left; .. An unclosed `L` is judged at the end", and its sound record's "a place at a command, with
 // the loop place behind the enclosing `L`".
 use crate::Flow;
@@ -6,11 +7,15 @@ use crate::Standing;
 use crate::Turn;
 use crate::Verdict;
 use crate::Walked;
-use crate::single::turn;
+use crate::single::turned;
+use program::Reading;
+use program::read_command;
 ghost use mathlib.Core.Path.{_≡_};
 ghost use mathlib.Core.Bool.{false};
 ghost use mathlib.Core.List.{[]};
+ghost use Rattle.program.specs.Command.{readOf};
 ghost use Rattle.judge.specs.Token.{tokensOf};
+ghost use Rattle.judge.specs.declared.Standing.the-variants.{Nowhere};
 ghost use Rattle.judge.specs.Flow.{endedOf, opensOf};
 ghost use Rattle.judge.specs.Verdict.{endOf, commandsOf};
 ghost use Rattle.judge.specs.Standing.{insideOf, orElse, standAt, walkedOf};
@@ -38,42 +43,50 @@ fn first(found: Standing, here: Standing) -> Standing
 }
 
 // Where no command is left: an unclosed `L` is 26 at that `L`, and what was found then stands nowhere.
-fn over(flow: Flow, found: Standing) -> Walked
-    ensures { λ r. ⌜ r ≡ walkedOf (endOf (endedOf flow) (opensOf flow)) found ⌝ }
+fn over(flow: Flow, found: Standing, read: Reading) -> Walked
+    ensures { λ r. ⌜ r ≡ walkedOf (endOf (endedOf flow) (opensOf flow)) found read ⌝ }
 {
     match flow {
         Flow::Free => Walked {
             verdict: Verdict::Finite,
             found,
+            read,
         },
         Flow::Ended => Walked {
             verdict: Verdict::Endless,
             found,
+            read,
         },
         Flow::Within(open) => Walked {
             verdict: Verdict::Refused(26, open.caret),
             found: Standing::Nowhere,
+            read,
         },
     }
 }
 
-// The commands of a body, from its first byte to its end, and the place among them.
+// The commands of a body, from its first byte to its end, and the place among them with what is read at it.
 pub fn walk(body: &[u8], place: usize) -> Walked
-    ensures { λ r. ⌜ r ≡ walkedOf (commandsOf (now (body .entry))) (standAt place (tokensOf (now (body .entry)) 0) 1 0 false []) ⌝ }
+    ensures judged { λ r. ⌜ r ≡ walkedOf (commandsOf (now (body .entry))) (standAt place (tokensOf (now (body .entry)) 0) 1 0 false []) (r .read) ⌝ }
+    ensures heard { λ r. ⌜ ((r .found ≡ Nowhere → ⊥) → r .read ≡ readOf (now (body .entry)) place) ⌝ }
 {
     let mut at: usize = 0;
     let mut flow = Flow::Free;
     let mut found = Standing::Nowhere;
+    let mut here = Reading::Refused(22, place);
     while at < body.len() {
+        let read = read_command(body, at);
         if at == place {
             found = first(found, inside(flow));
+            here = read;
         }
-        let said = turn(body, at, flow);
+        let said = turned(read, at, flow);
         match said {
             Turn::Stop(n, p) => {
                 return Walked {
                     verdict: Verdict::Refused(n, p),
                     found: Standing::Nowhere,
+                    read: here,
                 };
             }
             Turn::Next(next, then) => {
@@ -82,5 +95,5 @@ pub fn walk(body: &[u8], place: usize) -> Walked
             }
         }
     }
-    over(flow, found)
+    over(flow, found, here)
 }

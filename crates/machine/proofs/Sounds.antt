@@ -1,24 +1,27 @@
 -- Soundness, part by part: which part decides where those before it hold.
 use Prim.Native.Nat.{ℕ, _-_, _≤_, _<_}
 use mathlib.Core.List.{List, [], _∷_}
-use mathlib.Core.Bool.{true, false}
+use mathlib.Core.Bool.{Bool, true, false}
 use mathlib.Core.Path.{_≡_, refl, sym, ap, _∙_}
 use native.Mathlib.Omega.{arith}
 use lib.ListN.{length, take, drop, length-drop}
 use lib.Seq.{take-all}
-use lib.Dec.{leb}
+use lib.Dec.{eqb, leb}
 use borrow.Author.Tests.{leb-true}
+use Rattle.basis.specs.Choice.{when, _and_}
 use Rattle.basis.proofs.Choices.{and-parts}
 use Rattle.basis.proofs.Tests.{tests}
 use Rattle.program.specs.Command.{readOf}
+use Rattle.program.specs.declared.Reading.{Reading}
 use Rattle.program.specs.declared.Reading.the-variants.{Refused as Bad}
 use Rattle.judge.specs.Token.{good, bad, tokOf}
 use Rattle.judge.specs.declared.Standing.{Standing}
-use Rattle.judge.specs.declared.Standing.the-variants.{Nowhere}
+use Rattle.judge.specs.declared.Standing.the-variants.{Nowhere, Outside, Inside}
 use Rattle.judge.proofs.Standings.{At, stands-at}
-use Rattle.judge.specs.Standing.{standOf}
+use Rattle.judge.specs.Standing.{standOf, seenOf}
 use Rattle.perform.specs.Settings.{soundOf as settingsSound}
-use Rattle.machine.specs.Sound.{zerosOf, bodyOf, restsOf, heldOf, soundOf}
+use Rattle.machine.specs.Sound.{zerosOf, bodyOf, restsOf, heldOf, tidyBy, tidyOf, soundOf}
+use Rattle.perform.specs.declared.settings.Settings.{Settings}
 use Rattle.machine.specs.declared.Loop.{Loop}
 use Rattle.machine.specs.declared.Run.{Run}
 use Rattle.machine.proofs.Reached.{here}
@@ -34,29 +37,55 @@ none-left b n h = go (drop n b) (omega (arith, length-drop n b))
     go [] z = refl
     go (x ∷ xs) z = absurd (omega arith)
 
-module _ (r : Run) where
-  pub too-long : 84 < r .len → soundOf r ≡ false
+-- which of the first parts decides
+module _ (b : List ℕ) (n : ℕ) (σ : Settings) (fits : n ≤ 84) where
+  pub unclean : zerosOf (drop n b) ≡ false → tidyBy b n σ ≡ false
+  unclean z = search (tests, z)
+
+  pub set-tidy : zerosOf (drop n b) ≡ true → tidyBy b n σ ≡ settingsSound σ
+  set-tidy z = search (tests, z)
+
+-- where the first parts hold, the last decides
+module _ (r : Run) (fits : r .len ≤ 84) (clean : zerosOf (drop (r .len) (r .body)) ≡ true) (set : settingsSound (r .settings) ≡ true) where
+  pub resting : r .len ≡ 0 → soundOf r ≡ restsOf (r .place) (r .inner)
   unfolding soundOf
-  too-long h = search tests
+  resting h = search (tests, clean, set)
 
-  module _ (fits : r .len ≤ 84) where
-    pub unclean : zerosOf (drop (r .len) (r .body)) ≡ false → soundOf r ≡ false
-    unfolding soundOf
-    unclean z = search (tests, z)
+  pub running : (r .len ≡ 0 → ⊥) → soundOf r ≡ heldOf (standOf (bodyOf r) (r .place)) (r .inner)
+  unfolding soundOf
+  running h = search (tests, clean, set)
 
-    module _ (clean : zerosOf (drop (r .len) (r .body)) ≡ true) where
-      pub ill-set : settingsSound (r .settings) ≡ false → soundOf r ≡ false
-      unfolding soundOf
-      ill-set s = search (tests, clean, s)
+-- the three first parts, and the fourth
+and-four : (a b c d : Bool) → (a and b and c and d) ≡ ((a and b and c) and d)
+and-four false b c d = refl
+and-four true false c d = refl
+and-four true true c d = refl
 
-      module _ (set : settingsSound (r .settings) ≡ true) where
-        pub resting : r .len ≡ 0 → soundOf r ≡ restsOf (r .place) (r .inner)
-        unfolding soundOf
-        resting h = search (tests, clean, set)
+pub untidy-sound : (r : Run) → tidyOf r ≡ false → soundOf r ≡ false
+unfolding soundOf
+untidy-sound r e =
+    let last = when (eqb (r .len) 0) (restsOf (r .place) (r .inner)) (heldOf (standOf (bodyOf r) (r .place)) (r .inner)) in
+    and-four (leb (r .len) 84) (zerosOf (drop (r .len) (r .body))) (settingsSound (r .settings)) last ∙ ap (λ (t : Bool). t and last) e
 
-        pub running : (r .len ≡ 0 → ⊥) → soundOf r ≡ heldOf (standOf (bodyOf r) (r .place)) (r .inner)
-        unfolding soundOf
-        running h = search (tests, clean, set)
+module _ (r : Run) (tidy : tidyOf r ≡ true) where
+  pub tidy-fits : r .len ≤ 84
+  tidy-fits = leb-true (r .len) 84 (and-parts (leb (r .len) 84) _ tidy .0)
+
+  pub tidy-resting : r .len ≡ 0 → soundOf r ≡ restsOf (r .place) (r .inner)
+  tidy-resting h =
+      let b = and-parts (zerosOf (drop (r .len) (r .body))) _ (and-parts (leb (r .len) 84) _ tidy .1) in
+      resting r tidy-fits (b .0) (b .1) h
+
+  pub tidy-running : (r .len ≡ 0 → ⊥) → soundOf r ≡ heldOf (standOf (bodyOf r) (r .place)) (r .inner)
+  tidy-running h =
+      let b = and-parts (zerosOf (drop (r .len) (r .body))) _ (and-parts (leb (r .len) 84) _ tidy .1) in
+      running r tidy-fits (b .0) (b .1) h
+
+-- what is read where a place is held
+pub held-seen : (s : Standing) (l : Loop) (x : Reading) (q : ℕ) → heldOf s l ≡ true → seenOf s x q ≡ x
+held-seen Nowhere l x q h = let z : _≡_ {A = ℕ} 0 1 = cc in absurd (omega arith)
+held-seen Outside l x q h = refl
+held-seen (Inside behind number) l x q h = refl
 
 -- the parts of a sound run
 pub record Parts (r : Run) : Type 0 where

@@ -12,6 +12,7 @@ use Rattle.judge.specs.Standing.{standOf}
 use Rattle.judge.specs.declared.Standing.{Standing}
 use Rattle.judge.specs.declared.Standing.the-variants.{Nowhere, Outside, Inside}
 use Rattle.perform.specs.Settings.{soundOf as settingsSound}
+use Rattle.perform.specs.declared.settings.Settings.{Settings}
 use Rattle.machine.specs.declared.Loop.{Loop}
 use Rattle.machine.specs.declared.Run.{Run}
 
@@ -33,6 +34,13 @@ abbrev pub heldOf : Standing → Loop → Bool
 heldOf Nowhere l = false
 heldOf Outside l = eqb (l .place) 0 and eqb (l .left) 0
 heldOf (Inside behind number) l = eqb (l .place) behind and within 1 (l .left) number
+
+-- length, unused room and settings
+abbrev pub tidyBy : List ℕ → ℕ → Settings → Bool
+tidyBy body len σ = leb len 84 and zerosOf (drop len body) and settingsSound σ
+
+abbrev pub tidyOf : Run → Bool
+tidyOf r = tidyBy (r .body) (r .len) (r .settings)
 
 unfoldable pub soundOf : Run → Bool
 soundOf r =

@@ -59,9 +59,12 @@ wentOf r =
       answer = sayOf (saidOf (get (bodyOf r)) (stateOf r));
     })
 
--- 16 for an unsound run, which stays
+-- an unsound run stays, and is told 16
+abbrev pub unsoundOf : Run → Stepped
+unsoundOf r = record { run = r; answer = Refused 16 }
+
 unfoldable pub stepOf : Run → Stepped
-stepOf r = when (soundOf r) (wentOf r) (record { run = r; answer = Refused 16 })
+stepOf r = when (soundOf r) (wentOf r) (unsoundOf r)
 
 -- so many steps: the run behind them, and their answers
 abbrev pub afterRun : ℕ → Run → Run

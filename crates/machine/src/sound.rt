@@ -5,11 +5,12 @@ use crate::Loop;
 use crate::Run;
 use judge::Standing;
 use judge::stand;
+use perform::Settings;
 ghost use mathlib.Core.Path.{_≡_};
 ghost use lib.Dec.{eqb};
 ghost use lib.ListN.{drop};
 ghost use Rattle.basis.specs.Choice.{_and_};
-ghost use Rattle.machine.specs.Sound.{zerosOf, restsOf, heldOf, soundOf};
+ghost use Rattle.machine.specs.Sound.{zerosOf, restsOf, heldOf, tidyBy, soundOf};
 
 // The greater of two bytes, which is 0 only if both are.
 fn greater(one: u8, other: u8) -> u8
@@ -45,7 +46,7 @@ fn clean(bytes: &[u8], len: usize) -> bool
 }
 
 // Whether places and count are 0, as in a Ready run.
-fn rests(place: usize, inner: Loop) -> bool
+pub(crate) fn rests(place: usize, inner: Loop) -> bool
     ensures { λ r. ⌜ r ≡ restsOf place inner ⌝ }
 {
     if place != 0 {
@@ -58,7 +59,7 @@ fn rests(place: usize, inner: Loop) -> bool
 }
 
 // Whether the open loop is the one that the place stands in.
-fn held(standing: Standing, inner: Loop) -> bool
+pub(crate) fn held(standing: Standing, inner: Loop) -> bool
     ensures { λ r. ⌜ r ≡ heldOf standing inner ⌝ }
 {
     let place = inner.place;
@@ -83,6 +84,19 @@ fn held(standing: Standing, inner: Loop) -> bool
     }
 }
 
+// Whether length, unused room and settings are sound.
+pub(crate) fn tidy(body: &[u8], len: usize, settings: Settings) -> bool
+    ensures { λ r. ⌜ r ≡ tidyBy (now (body .entry)) len settings ⌝ }
+{
+    if 84 < len {
+        return false;
+    }
+    if !clean(body, len) {
+        return false;
+    }
+    settings.sound()
+}
+
 impl Run {
     // Whether the run is sound.
     pub fn sound(self) -> bool
@@ -93,13 +107,7 @@ impl Run {
         let place = self.place;
         let inner = self.inner;
         let settings = self.settings;
-        if 84 < len {
-            return false;
-        }
-        if !clean(&body, len) {
-            return false;
-        }
-        if !settings.sound() {
+        if !tidy(&body, len, settings) {
             return false;
         }
         if len == 0 {

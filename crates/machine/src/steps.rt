@@ -5,7 +5,11 @@ use crate::Answer;
 use crate::Loop;
 use crate::Run;
 use crate::Stepped;
+use crate::sound::held;
+use crate::sound::rests;
+use crate::sound::tidy;
 use judge::Role;
+use judge::find;
 use judge::role_of;
 use measure::text_width;
 use perform::Settings;
@@ -13,15 +17,14 @@ use perform::perform;
 use program::Command;
 use program::Kind;
 use program::Reading;
-use program::read_command;
 ghost use mathlib.Core.Path.{_≡_};
 ghost use mathlib.Core.List.{[]};
 ghost use mathlib.Core.Bool.{true};
 ghost use Rattle.program.specs.Command.{readOf};
 ghost use Rattle.program.specs.declared.Reading.the-variants.{Good};
 ghost use Rattle.judge.specs.Token.{roleOf};
-ghost use Rattle.machine.specs.Sound.{soundOf};
-ghost use Rattle.machine.specs.Step.{framesOf, loopOf, readyOf, runOf, wentOf, stepOf};
+ghost use Rattle.machine.specs.Sound.{bodyOf, soundOf};
+ghost use Rattle.machine.specs.Step.{framesOf, loopOf, readyOf, runOf, wentOf, unsoundOf, stepOf};
 ghost use Rattle.machine.specs.Moves.{settledOf, closedOf, returnedOf, movedOf, ranOf};
 
 // No loop is open.
@@ -121,17 +124,12 @@ impl Run {
         }
     }
 
-    // A Busy run goes on by the command at its place.
-    fn run(self) -> Stepped
-        requires { ⌜ (soundOf self ≡ true) × (self .len ≡ 0 → ⊥) ⌝ }
+    // A Busy run goes on by what is read at its place, `live` being its running body.
+    fn run(self, live: &[u8], read: Reading) -> Stepped
+        requires { ⌜ (soundOf self ≡ true) × ((self .len ≡ 0 → ⊥) × ((read ≡ readOf (bodyOf self) (self .place)) × (now live ≡ bodyOf self))) ⌝ }
         ensures { λ r. ⌜ r ≡ ranOf self ⌝ }
     {
-        let body = self.body;
-        let len = self.len;
-        let place = self.place;
         let settings = self.settings;
-        let live = &body[..len];
-        let read = read_command(live, place);
         match read {
             // No sound run stands at such a place.
             Reading::Refused(_, _) => Stepped {
@@ -153,22 +151,44 @@ impl Run {
         }
     }
 
-    // One step: the next run with the answer; 16 for an unsound run.
+    // An unsound run stays as it is.
+    fn unsound(self) -> Stepped
+        ensures { λ r. ⌜ r ≡ unsoundOf self ⌝ }
+    {
+        Stepped {
+            run: self,
+            answer: Answer::Refused(16),
+        }
+    }
+
+    // One step: the next run with the answer; 16 for an unsound run. The command is read as soundness is tested, and not again.
     pub fn step(self) -> Stepped
         ensures { λ r. ⌜ r ≡ stepOf self ⌝ }
     {
-        if !self.sound() {
-            return Stepped {
-                run: self,
-                answer: Answer::Refused(16),
-            };
+        let body = self.body;
+        let len = self.len;
+        let place = self.place;
+        let inner = self.inner;
+        let settings = self.settings;
+        if !tidy(&body, len, settings) {
+            return self.unsound();
         }
-        if self.len == 0 {
+        if len == 0 {
+            if !rests(place, inner) {
+                return self.unsound();
+            }
             return Stepped {
                 run: self,
                 answer: Answer::Idle,
             };
         }
-        self.run()
+        let live = &body[..len];
+        let found = find(live, place);
+        let standing = found.standing;
+        let read = found.read;
+        if !held(standing, inner) {
+            return self.unsound();
+        }
+        self.run(live, read)
     }
 }

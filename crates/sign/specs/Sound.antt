@@ -7,6 +7,7 @@ use lib.Dec.{eqb}
 use Rattle.basis.specs.Choice.{_and_, _or_}
 use Rattle.reply.specs.Reply.{isLast}
 use Rattle.collect.specs.Sound.{soundOf as collectionSound}
+use Rattle.collect.specs.declared.Collection.{Collection}
 use Rattle.machine.specs.Sound.{soundOf as runSound}
 use Rattle.sign.specs.declared.Sign.{Sign}
 
@@ -15,8 +16,11 @@ abbrev pub aloneOf : Sign → Bool
 aloneOf s = eqb (s .run .len) 0 or eqb (s .collection .total) 0
 
 -- all of it but the run
+abbrev pub framedBy : ℕ → Collection → ℕ → Bool
+framedBy last c len = isLast last and collectionSound last c and (eqb len 0 or eqb (c .total) 0)
+
 abbrev pub framedOf : Sign → Bool
-framedOf s = isLast (s .last) and collectionSound (s .last) (s .collection) and aloneOf s
+framedOf s = framedBy (s .last) (s .collection) (s .run .len)
 
 unfoldable pub soundOf : Sign → Bool
 soundOf s = isLast (s .last) and runSound (s .run) and collectionSound (s .last) (s .collection) and aloneOf s

@@ -2,6 +2,7 @@
 // part of soundness is tested by its step.
 use crate::Sign;
 use crate::Stepped;
+use crate::sound::framed;
 use machine::Answer;
 ghost use mathlib.Core.Path.{_≡_};
 ghost use Rattle.sign.specs.Step.{stepOf};
@@ -11,7 +12,8 @@ impl Sign {
     pub fn step(self) -> Stepped
         ensures { λ r. ⌜ r ≡ stepOf self ⌝ }
     {
-        if !self.framed() {
+        let collection = self.collection;
+        if !framed(self.last, collection, self.run.len) {
             return Stepped {
                 sign: self,
                 answer: Answer::Refused(16),

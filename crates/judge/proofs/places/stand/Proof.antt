@@ -34,7 +34,7 @@ unfolding standOf
 returns-2 c =
     let a = c .before .before .before .before .before .args in
     let e = begun-front (a .body .now) (sym (c .before .before .before .front .ensures) ∙ c .before .enum-told2 .given .1) .0 in
-    ap (λ (w : Walked). w .found) (c .walk .ensures) ∙ sym (ap (λ (v : Verdict). ofAccepted v (standAt (a .place) (tokensOf (a .body .now) 0) 1 0 false [])) e)
+    ap (λ (w : Walked). w .found) (c .walk .ensures .0) ∙ sym (ap (λ (v : Verdict). ofAccepted v (standAt (a .place) (tokensOf (a .body .now) 0) 1 0 false [])) e)
 
 pub stand-spec : {M : Type 1} → statement M
 stand-spec =

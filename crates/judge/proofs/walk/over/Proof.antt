@@ -1,5 +1,6 @@
 -- `judge::walk::over` meets its contract: each arm knows where judging stands.
 use mathlib.Core.Path.{sym, ap}
+use Rattle.program.specs.declared.Reading.{Reading}
 use Rattle.judge.specs.Flow.{endedOf, opensOf}
 use Rattle.judge.specs.Verdict.{endOf}
 use Rattle.judge.specs.Standing.{walkedOf}
@@ -11,8 +12,8 @@ use Rattle.judge.proofs.walk.over.Statement.{statement}
 use Rattle.judge.proofs.walk.over.Tie as tie
 
 -- what is handed back, by where judging stands
-abbrev at-end : Standing → Flow → Walked
-at-end s f = walkedOf (endOf (endedOf f) (opensOf f)) s
+abbrev at-end : Standing → Reading → Flow → Walked
+at-end s r f = walkedOf (endOf (endedOf f) (opensOf f)) s r
 
 enum-told : tie.Need-enum-told
 enum-told c = search needs
@@ -24,15 +25,15 @@ enum-known-flow : tie.Need-enum-known-flow
 enum-known-flow c = search needs
 
 returns : tie.Need-returns
-returns c = sym (ap (at-end (c .before .before .args .found)) (c .enum-told .given .1))
+returns c = sym (ap (at-end (c .before .before .args .found) (c .before .before .args .read)) (c .enum-told .given .1))
 
 returns-2 : tie.Need-returns-2
-returns-2 c = sym (ap (at-end (c .before .before .args .found)) (c .enum-told2 .given .1))
+returns-2 c = sym (ap (at-end (c .before .before .args .found) (c .before .before .args .read)) (c .enum-told2 .given .1))
 
 returns-3 : tie.Need-returns-3
 returns-3 c =
     let f = c .before in
-    sym (ap (at-end (f .before .before .args .found)) (f .flow .given .1))
+    sym (ap (at-end (f .before .before .args .found) (f .before .before .args .read)) (f .flow .given .1))
 
 pub over-spec : {M : Type 1} → statement M
 over-spec =

@@ -23,7 +23,7 @@ returns c = sym (front-judged (c .before .before .before .before .before .args .
 
 returns-2 : tie.Need-returns-2
 returns-2 c =
-    ap (λ (w : Walked). w .verdict) (c .walk .ensures) ∙ sym (begun-front (c .before .before .before .before .before .args .body .now) (sym (c .before .before .before .front .ensures) ∙ c .before .enum-told .given .1) .0)
+    ap (λ (w : Walked). w .verdict) (c .walk .ensures .0) ∙ sym (begun-front (c .before .before .before .before .before .args .body .now) (sym (c .before .before .before .front .ensures) ∙ c .before .enum-told .given .1) .0)
 
 pub judge-spec : {M : Type 1} → statement M
 judge-spec =

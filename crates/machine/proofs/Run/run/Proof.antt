@@ -1,8 +1,10 @@
--- `run` performs the command at its place, which is good in a sound run.
-use mathlib.Core.Path.{_≡_, sym, ap, _∙_}
+-- `run` performs what is read at its place, which is good in a sound run.
+use mathlib.Core.Path.{sym, ap, _∙_}
 use native.Mathlib.Omega.{arith}
-use lib.ListN.{length, length-take}
-use lib.Seq.{length-take-le}
+use Prim.Native.Nat.{ℕ, min}
+use mathlib.Core.List.{List}
+use lib.ListN.{take, drop, length-take}
+use Rattle.measure.specs.Width.{widthOf, widest}
 use Rattle.measure.proofs.Widths.{part-whole}
 use Rattle.machine.specs.Sound.{bodyOf}
 use Rattle.machine.proofs.Commands.{number-byte}
@@ -12,23 +14,6 @@ use borrow.Author.Needs.{needs}
 use Rattle.machine.proofs.Run.run.Statement.{statement}
 use Rattle.machine.proofs.Run.run.Tie as tie
 
-array-share-prefix-body : tie.Need-array-share-prefix-body
-array-share-prefix-body c =
-    let a = c .before .before .args .self in
-    let l : length (a .body) ≡ 84 = search needs in
-    let fits = sound-parts a (c .before .before .pre .0) .fits in
-    omega arith
-
-slice-aggregate-live : tie.Need-slice-aggregate-live
-slice-aggregate-live c =
-    let a = c .before .before .before .args .self in
-    let l : length (a .body) ≡ 84 = search needs in
-    let fits = sound-parts a (c .before .before .before .pre .0) .fits in
-    sym (length-take-le (a .len) (a .body) (omega arith))
-
-read-command-requires : tie.Need-read-command-requires
-read-command-requires c κs = search needs
-
 enum-told : tie.Need-enum-told
 enum-told c = search needs
 
@@ -37,9 +22,9 @@ enum-known-read c = search needs
 
 cast-number : tie.Need-cast-number
 cast-number c =
-    let a = c .before .before .before .before .before .before .before .before .args .self in
+    let a = c .before .before .before .before .before .before .args .self in
     let d = c .before .before .read .given .0 .0 in
-    let e = sym (c .before .before .before .before .read-command .ensures) ∙ c .before .before .read .given .1 in
+    let e = sym (c .before .before .before .before .before .before .pre .1 .1 .0) ∙ c .before .before .read .given .1 in
     omega (arith, number-byte (bodyOf a) (a .place) d e)
 
 text-width-requires : tie.Need-text-width-requires
@@ -53,26 +38,23 @@ moved-requires c κs = search needs
 
 returns : tie.Need-returns
 returns c =
-    let a = c .before .before .before .before .before .before .args .self in
-    let e = sym (c .before .before .read-command .ensures) ∙ c .enum-told .given .1 in
-    absurd (busy-good a (c .before .before .before .before .before .before .pre .0) (c .before .before .before .before .before .before .pre .1) _ _ e)
+    let a = c .before .before .before .before .args .self in
+    let e = sym (c .before .before .before .before .pre .1 .1 .0) ∙ c .enum-told .given .1 in
+    absurd (busy-good a (c .before .before .before .before .pre .0) (c .before .before .before .before .pre .1 .0) _ _ e)
 
 returns-2 : tie.Need-returns-2
 returns-2 c =
-    let a = c .before .before .before .before .before .before .before .before .before .before .before .args .self in
+    let a = c .before .before .before .before .before .before .before .before .before .args .self in
     let d = c .before .before .before .before .before .read .given .0 .0 in
-    let e = sym (c .before .before .before .before .before .before .before .read-command .ensures) ∙ c .before .before .before .before .before .read .given .1 in
-    let fits = sound-parts a (c .before .before .before .before .before .before .before .before .before .before .before .pre .0) .fits in
-    let wide = c .before .before .text-width .ensures ∙ part-whole (bodyOf a) (d .text) (d .len) (omega (arith, length-take (a .len) (a .body))) in
+    let e = sym (c .before .before .before .before .before .before .before .before .before .pre .1 .1 .0) ∙ c .before .before .before .before .before .read .given .1 in
+    let fits = sound-parts a (c .before .before .before .before .before .before .before .before .before .pre .0) .fits in
+    let wide = c .before .before .text-width .ensures ∙ ap (λ (b : List ℕ). min (widthOf (take (d .len) (drop (d .text) b))) widest) (c .before .before .before .before .before .before .before .before .before .pre .1 .1 .1) ∙ part-whole (bodyOf a) (d .text) (d .len) (omega (arith, length-take (a .len) (a .body))) in
     ran-good a d (c .before .before .text-width .result) (c .moved .result) (c .before .perform .result) e wide (c .before .perform .ensures) (c .moved .ensures)
 
 pub run-spec : {M : Type 1} → statement M
 run-spec =
     tie.close
     (tie.spec
-    array-share-prefix-body
-    slice-aggregate-live
-    read-command-requires
     enum-told
     enum-known-read
     cast-number

@@ -10,14 +10,14 @@ framed-requires : tie.Need-framed-requires
 framed-requires c κs = search needs
 
 returns : tie.Need-returns
-returns c = sym (unframed-steps (c .before .before .args .self) (sym (c .before .framed .ensures) ∙ not-true _ (c .if1 .taken)))
+returns c = sym (unframed-steps (c .before .before .before .args .self) (sym (c .before .framed .ensures) ∙ not-true _ (c .if1 .taken)))
 
 step-requires : tie.Need-step-requires
 step-requires c κs = search needs
 
 returns-2 : tie.Need-returns-2
 returns-2 c =
-    let s = c .before .before .before .before .before .args .self in
+    let s = c .before .before .before .before .before .before .args .self in
     ap (steppedOf s) (c .before .step .ensures) ∙ sym (framed-steps s (sym (c .before .before .before .before .framed .ensures) ∙ not-false _ (c .before .before .before .if1 .left)))
 
 pub step-spec : {M : Type 1} → statement M

@@ -66,6 +66,15 @@ use Rattle.judge.proofs.judge.Reads as judge-judge-reads
 use Rattle.judge.proofs.stand as judge-stand
 use Rattle.judge.proofs.stand.Kinds as judge-stand-kinds
 use Rattle.judge.proofs.stand.Reads as judge-stand-reads
+use Rattle.judge.proofs.front as judge-front
+use Rattle.judge.proofs.front.Kinds as judge-front-kinds
+use Rattle.judge.proofs.front.Reads as judge-front-reads
+use Rattle.judge.proofs.turned as judge-turned
+use Rattle.judge.proofs.turned.Kinds as judge-turned-kinds
+use Rattle.judge.proofs.turned.Reads as judge-turned-reads
+use Rattle.judge.proofs.find as judge-find
+use Rattle.judge.proofs.find.Kinds as judge-find-kinds
+use Rattle.judge.proofs.find.Reads as judge-find-reads
 use Rattle.judge.proofs.role_of as judge-role-of
 use Rattle.judge.proofs.role_of.Kinds as judge-role-of-kinds
 use Rattle.judge.proofs.role_of.Reads as judge-role-of-reads
@@ -260,6 +269,18 @@ one-judge-judge κs a r r′ s s′ h h′ = one h h′
 pub one-judge-stand : (κs : Lifetimes.Lfts 1) (a : World.ArgsD judge-stand.signature κs) (r r′ : World.ResD judge-stand.signature κs)
     (s s′ : Clauses.AtExit (K.endedOf 1 judge-stand-kinds.ps judge-stand-kinds.r) κs) → judge-stand-reads.Post κs a r s → judge-stand-reads.Post κs a r′ s′ → r ≡ r′
 one-judge-stand κs a r r′ s s′ h h′ = one h h′
+
+pub one-judge-front : (κs : Lifetimes.Lfts 1) (a : World.ArgsD judge-front.signature κs) (r r′ : World.ResD judge-front.signature κs)
+    (s s′ : Clauses.AtExit (K.endedOf 1 judge-front-kinds.ps judge-front-kinds.r) κs) → judge-front-reads.Post κs a r s → judge-front-reads.Post κs a r′ s′ → r ≡ r′
+one-judge-front κs a r r′ s s′ h h′ = one h h′
+
+pub one-judge-turned : (κs : Lifetimes.Lfts 0) (a : World.ArgsD judge-turned.signature κs) (r r′ : World.ResD judge-turned.signature κs)
+    (s s′ : Clauses.AtExit (K.endedOf 0 judge-turned-kinds.ps judge-turned-kinds.r) κs) → judge-turned-reads.Post κs a r s → judge-turned-reads.Post κs a r′ s′ → r ≡ r′
+one-judge-turned κs a r r′ s s′ h h′ = one h h′
+
+pub one-judge-find : (κs : Lifetimes.Lfts 1) (a : World.ArgsD judge-find.signature κs) (r r′ : World.ResD judge-find.signature κs)
+    (s s′ : Clauses.AtExit (K.endedOf 1 judge-find-kinds.ps judge-find-kinds.r) κs) → judge-find-reads.Post κs a r s → judge-find-reads.Post κs a r′ s′ → r ≡ r′
+one-judge-find κs a r r′ s s′ h h′ = one h h′
 
 pub one-judge-role-of : (κs : Lifetimes.Lfts 0) (a : World.ArgsD judge-role-of.signature κs) (r r′ : World.ResD judge-role-of.signature κs)
     (s s′ : Clauses.AtExit (K.endedOf 0 judge-role-of-kinds.ps judge-role-of-kinds.r) κs) → judge-role-of-reads.Post κs a r s → judge-role-of-reads.Post κs a r′ s′ → r ≡ r′

@@ -86,7 +86,7 @@ fn may_run(before: u8, last: u8) -> bool
 
 // What is wrong with the byte x of a text at `at`, among its neighbours: 24, 25, or 0 where nothing is. The byte behind counts for
 // a tilde alone, and is read only there.
-pub fn wrong(body: &[u8], at: usize, before: u8, last: u8, x: u8) -> u8
+pub(crate) fn wrong(body: &[u8], at: usize, before: u8, last: u8, x: u8) -> u8
     requires { ⌜ at < length (now body) ⌝ }
     ensures { λ r. ⌜ r ≡ wrongOf before last x (getD (now (body .entry)) (at + 1) caret) ⌝ }
 {

@@ -1,4 +1,5 @@
 // One line for each thing done: the answer in words.
+use hear::Outcome;
 use input::digit;
 use judge::Verdict;
 use machine::Answer;
@@ -6,7 +7,6 @@ use packet::Written;
 use perform::Performed;
 use repeater::repeat;
 use sign::Cleared;
-use sign::Outcome;
 use sign::Received;
 use sign::Sign;
 use sign::Stepped;

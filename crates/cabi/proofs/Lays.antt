@@ -22,8 +22,8 @@ use Rattle.sign.specs.declared.Sign.{Sign}
 use Rattle.sign.specs.declared.Received.{Received}
 use Rattle.sign.specs.declared.Cleared.{Cleared}
 use Rattle.sign.specs.declared.Stepped.{Stepped}
-use Rattle.sign.specs.declared.Outcome.{Outcome}
-use Rattle.sign.specs.declared.Outcome.the-variants.{Query, Reset, Repeat, Stored, Released, Refused}
+use Rattle.hear.specs.declared.Outcome.{Outcome}
+use Rattle.hear.specs.declared.Outcome.the-variants.{Query, Reset, Repeat, Stored, Released, Refused}
 use Rattle.sign.proofs.Outcome.{the-type}
 use Rattle.image.specs.Layout.{imageOf, recordOf}
 use Rattle.words.specs.Words.{wordsOf, wroteOf}

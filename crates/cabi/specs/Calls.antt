@@ -19,8 +19,8 @@ use Rattle.sign.specs.Receive.{receiveOf, numberOf}
 use Rattle.sign.specs.Step.{stepOf, numberOf as stepNumber}
 use Rattle.sign.specs.Tell.{toldRows}
 use Rattle.sign.specs.declared.Sign.{Sign}
-use Rattle.sign.specs.declared.Outcome.{Outcome}
-use Rattle.sign.specs.declared.Outcome.the-variants.{Query, Reset, Repeat, Stored, Released, Refused}
+use Rattle.hear.specs.declared.Outcome.{Outcome}
+use Rattle.hear.specs.declared.Outcome.the-variants.{Query, Reset, Repeat, Stored, Released, Refused}
 use Rattle.image.specs.Layout.{imageOf, recordOf}
 use Rattle.words.specs.Words.{wordsOf, wroteOf}
 use Rattle.words.specs.Told.{answerRow, firstOr, toldIn, readWords, heardWords, foretoldWords, foretoldResult, receivedBytes, stepWords}

@@ -2,9 +2,9 @@
 use crate::held::SIZE;
 use crate::held::load;
 use crate::held::store;
+use hear::Outcome;
 use machine::Answer;
 use repeater::shows;
-use sign::Outcome;
 use sign::Sign;
 use words::lay_idle;
 use words::lay_performed;

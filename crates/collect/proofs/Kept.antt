@@ -14,7 +14,7 @@ use Rattle.basis.proofs.Choices.{and-true, and-parts}
 use Rattle.machine.specs.Sound.{zerosOf}
 use Rattle.collect.specs.Slots.{ruleOf, oneOf, heldOf, slotsOf}
 use Rattle.collect.proofs.Rooms.{laid-on}
-use Rattle.collect.proofs.Turns.{rule-most}
+use Rattle.collect.proofs.Turns.{drop-take, rule-most}
 use Rattle.collect.proofs.Joined.{First, first}
 
 -- zeros behind zeros
@@ -22,16 +22,6 @@ zeros-drop : (n : ℕ) (s : List ℕ) → zerosOf s ≡ true → zerosOf (drop n
 zeros-drop zero s e = e
 zeros-drop (suc n) [] e = refl
 zeros-drop (suc n) (x ∷ xs) e = zeros-drop n xs (and-parts (eqb x 0) (zerosOf xs) e .1)
-
-drop-take : (n k : ℕ) (s : List ℕ) → n ≤ k → drop n (take k s) ≡ take (k - n) (drop n s)
-drop-take zero k s h = let e : k ≡ k - 0 = omega arith in ap (λ (m : ℕ). take m s) e
-drop-take (suc n) zero s h = absurd (omega arith)
-drop-take (suc n) (suc k) [] h = nil (suc k - suc n)
-  where
-    nil : (m : ℕ) → _≡_ {A = List ℕ} [] (take m [])
-    nil zero = refl
-    nil (suc m) = refl
-drop-take (suc n) (suc k) (x ∷ xs) h = let e : k - n ≡ suc k - suc n = omega arith in drop-take n k xs (omega arith) ∙ ap (λ (m : ℕ). take m (drop n xs)) e
 
 -- a slot made of its parts
 made : (total position len : ℕ) (lens room : List ℕ) → First total position len lens room → slotsOf total position (len ∷ lens) room ≡ true

@@ -6,7 +6,7 @@ use mathlib.Core.Path.{_≡_, refl, sym, ap, _∙_}
 use native.Mathlib.Numerals.{add-one}
 use native.Mathlib.Omega.{arith}
 use lib.Dec.{eqb, ltb, leb}
-use lib.ListN.{length, getD, take, drop, length-drop, drop-of-length-le, take-append-drop}
+use lib.ListN.{length, getD, take, drop, length-take, length-drop, drop-of-length-le, take-append-drop}
 use lib.Seq.{drop-cons, drop-drop}
 use borrow.Author.Tests.{leb-true, le-leb, eqb-true}
 use Rattle.basis.specs.Choice.{when, _and_, _or_}
@@ -99,12 +99,30 @@ one-most len = go (eqb len 0)
     go true = omega arith
     go false = omega arith
 
+-- what is left of a stretch behind its first elements
+pub drop-take : (n k : ℕ) (s : List ℕ) → n ≤ k → drop n (take k s) ≡ take (k - n) (drop n s)
+drop-take zero k s h = let e : k ≡ k - 0 = omega arith in ap (λ (m : ℕ). take m s) e
+drop-take (suc n) zero s h = absurd (omega arith)
+drop-take (suc n) (suc k) [] h = nil (suc k - suc n)
+  where
+    nil : (m : ℕ) → _≡_ {A = List ℕ} [] (take m [])
+    nil zero = refl
+    nil (suc m) = refl
+drop-take (suc n) (suc k) (x ∷ xs) h = let e : k - n ≡ suc k - suc n = omega arith in drop-take n k xs (omega arith) ∙ ap (λ (m : ℕ). take m (drop n xs)) e
+
+-- a slot that the code lends has 14 bytes
+pub part-length : (room : List ℕ) (i : ℕ) → 14 * i + 14 ≤ length room → length (take (14 * i + 14 - 14 * i) (drop (14 * i) room)) ≡ 14
+part-length room i h = simp (length-take, length-drop) (omega arith)
+
 -- the room behind a slot's data, as the code lends it
 pub slot-cut : (room : List ℕ) (i len : ℕ) → len ≤ 14
-    → zerosOf (take (14 - len) (drop (14 * i + len) room)) ≡ zerosOf (take (14 * i + 14 - (14 * i + len)) (drop (14 * i + len) room))
+    → zerosOf (take (14 - len) (drop (14 * i + len) room)) ≡ zerosOf (drop len (take (14 * i + 14 - 14 * i) (drop (14 * i) room)))
 slot-cut room i len h =
-    let e : 14 - len ≡ 14 * i + 14 - (14 * i + len) = omega arith in
-    ap (λ (n : ℕ). zerosOf (take n (drop (14 * i + len) room))) e
+    let e : 14 * i + 14 - 14 * i ≡ 14 = omega arith in
+    sym
+    (ap (λ (n : ℕ). zerosOf (drop len (take n (drop (14 * i) room)))) e
+    ∙ ap zerosOf (drop-take len 14 (drop (14 * i) room) h)
+    ∙ ap (λ (x : List ℕ). zerosOf (take (14 - len) x)) (drop-drop len (14 * i) room))
 
 zeros-append : (a b : List ℕ) → zerosOf (a ++ b) ≡ zerosOf a and zerosOf b
 zeros-append [] b = refl

@@ -1,8 +1,10 @@
 // Which collections are sound. Answers to 01's last paragraph of "Numbers for no": "the collected packets obey the packet rules, are
 // of one total, at least one and not all there, and their ID isn't the last completed; unused room holds zeros".
 use crate::Collection;
-use machine::zeros;
+use machine::clean;
 ghost use mathlib.Core.Path.{_≡_};
+ghost use lib.ListN.{length, drop};
+ghost use Rattle.machine.specs.Sound.{zerosOf};
 ghost use Rattle.collect.specs.Slots.{ruleOf, oneOf, heldOf, slotsOf};
 ghost use Rattle.collect.specs.Sound.{soundOf};
 
@@ -43,6 +45,17 @@ pub fn held(lens: [u8; 6]) -> usize
     n
 }
 
+// Whether a slot holds zeros behind its data; a full one is not looked at.
+fn unused(slot: &[u8], len: u8) -> bool
+    requires { ⌜ length (now slot) ≡ 14 ⌝ }
+    ensures { λ r. ⌜ r ≡ zerosOf (drop len (now (slot .entry))) ⌝ }
+{
+    if len == 14 {
+        return true;
+    }
+    clean(slot, len as usize)
+}
+
 impl Collection {
     // Whether each slot obeys the packet rules, with zeros behind its data.
     fn slots(self) -> bool
@@ -57,9 +70,9 @@ impl Collection {
             if !rule(total, i, len) {
                 return false;
             }
-            let from = 14 * i + len as usize;
-            let to = 14 * i + 14;
-            if !zeros(&room[from..to]) {
+            let from = 14 * i;
+            let to = from + 14;
+            if !unused(&room[from..to], len) {
                 return false;
             }
             i += 1;
@@ -73,10 +86,10 @@ impl Collection {
     {
         let lens = self.lens;
         let room = self.room;
-        if !zeros(&lens) {
+        if !clean(&lens, 0) {
             return false;
         }
-        zeros(&room)
+        clean(&room, 0)
     }
 
     // Whether the collection is sound beside this last completed ID.

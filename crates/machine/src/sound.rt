@@ -20,7 +20,7 @@ fn greater(one: u8, other: u8) -> u8
 }
 
 // Whether all bytes are 0.
-pub fn zeros(bytes: &[u8]) -> bool
+fn zeros(bytes: &[u8]) -> bool
     ensures { λ r. ⌜ r ≡ zerosOf (now (bytes .entry)) ⌝ }
 {
     let mut most: u8 = 0;
@@ -33,7 +33,7 @@ pub fn zeros(bytes: &[u8]) -> bool
 }
 
 // Whether all bytes behind the first `len` are 0; where all are to be, their number is known to the compiler.
-fn clean(bytes: &[u8], len: usize) -> bool
+pub fn clean(bytes: &[u8], len: usize) -> bool
     ensures { λ r. ⌜ r ≡ zerosOf (drop len (now (bytes .entry))) ⌝ }
 {
     if len == 0 {

@@ -45,7 +45,8 @@ use Rattle.reckon.specs.declared.reckon.Foretold.the-variants.{Refused as NoFor
 use Rattle.totals.specs.declared.Totals.{Totals}
 use Rattle.collect.specs.Slots.{heldOf, sameOf, begunOf, storedOf}
 use Rattle.collect.specs.declared.Collection.{Collection}
-use Rattle.sign.specs.Join.{staysOf, releaseOf, releasedOf, storesOf, placedOf, slotOf, goesOn, beginsOf, joinOf}
+use Rattle.hear.specs.Join.{slotOf, beginsOf}
+use Rattle.sign.specs.Join.{staysOf, releaseOf, releasedOf, storesOf, placedOf, goesOn, joinOf}
 use Rattle.sign.specs.Receive.{heardOf as heardBy, receiveOf}
 use Rattle.sign.specs.Reset.{resetOf, clearedOf}
 use Rattle.sign.specs.Sound.{soundOf}
@@ -54,8 +55,8 @@ use Rattle.sign.specs.declared.Sign.{Sign}
 use Rattle.sign.specs.declared.Received.{Received}
 use Rattle.sign.specs.declared.Cleared.{Cleared}
 use Rattle.sign.specs.declared.Stepped.{Stepped}
-use Rattle.sign.specs.declared.Outcome.{Outcome}
-use Rattle.sign.specs.declared.Outcome.the-variants.{Reset, Repeat, Refused}
+use Rattle.hear.specs.declared.Outcome.{Outcome}
+use Rattle.hear.specs.declared.Outcome.the-variants.{Reset, Repeat, Refused}
 
 -- what passes the table of numbers is no refusal
 named-yes : (id fifth len n : ℕ) → named id fifth len ≡ Unread n → ⊥

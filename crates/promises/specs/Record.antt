@@ -25,7 +25,7 @@ use Rattle.sign.specs.declared.Sign.{Sign}
 use Rattle.sign.specs.declared.Received.{Received}
 use Rattle.sign.specs.declared.Stepped.{Stepped}
 use Rattle.sign.specs.declared.Cleared.{Cleared}
-use Rattle.sign.specs.declared.Outcome.the-variants.{Reset, Stored, Released, Refused}
+use Rattle.hear.specs.declared.Outcome.the-variants.{Reset, Stored, Released, Refused}
 use Rattle.sign.proofs.Keeps.{Good}
 
 -- what an implementation is: its first record, and what it does with one

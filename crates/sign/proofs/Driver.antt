@@ -23,7 +23,8 @@ use Rattle.machine.specs.declared.Answer.{Answer}
 use Rattle.machine.specs.declared.Answer.the-variants.{Did, Idle, Refused as Stopped}
 use Rattle.sign.specs.Sound.{soundOf}
 use Rattle.sign.specs.Reset.{resetOf, clearedOf}
-use Rattle.sign.specs.Join.{staysOf, storesOf, releaseOf, releasedOf, countedOf, placedOf, slotOf, goesOn, joinOf}
+use Rattle.hear.specs.Join.{slotOf}
+use Rattle.sign.specs.Join.{staysOf, storesOf, releaseOf, releasedOf, countedOf, placedOf, goesOn, joinOf}
 use Rattle.sign.specs.Receive.{heardOf, receiveOf}
 use Rattle.sign.specs.Step.{stepOf}
 use Rattle.sign.specs.Driver.{movesOf, Event, step, bytes, afterEvents, saidEvents, afterSteps, saidSteps, stepsIn, Undisturbed}
@@ -31,8 +32,8 @@ use Rattle.sign.specs.declared.Sign.{Sign}
 use Rattle.sign.specs.declared.Received.{Received}
 use Rattle.sign.specs.declared.Cleared.{Cleared}
 use Rattle.sign.specs.declared.Stepped.{Stepped}
-use Rattle.sign.specs.declared.Outcome.{Outcome}
-use Rattle.sign.specs.declared.Outcome.the-variants.{Query, Reset, Repeat, Stored, Released, Refused}
+use Rattle.hear.specs.declared.Outcome.{Outcome}
+use Rattle.hear.specs.declared.Outcome.the-variants.{Query, Reset, Repeat, Stored, Released, Refused}
 use Rattle.machine.specs.declared.Stepped.{Stepped as RunStepped}
 use Rattle.machine.proofs.Keeps.{step-ready, step-busy}
 use Rattle.sign.proofs.Joining.{sound-receives, unsound-receives}

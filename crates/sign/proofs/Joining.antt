@@ -1,106 +1,36 @@
--- A packet that goes on with the collection: its position has room, or holds what decides.
-use Prim.Native.Nat.{ℕ, _+_, _-_, _*_, _≤_, _<_}
+-- Bytes that come to a record: a free position of its collection, what is read of them, and the record behind what is heard of them.
+use Prim.Native.Nat.{ℕ}
 use mathlib.Core.List.{List}
 use mathlib.Core.Bool.{Bool, true, false, not}
-use mathlib.Core.Path.{_≡_, refl, sym, ap, _∙_, subst}
-use native.Mathlib.Omega.{arith}
-use lib.Dec.{eqb}
-use lib.ListN.{length, getD, take, drop, replicate, getD-replicate}
-use borrow.Author.Tests.{eq-eqb, ne-eqb}
-use Rattle.basis.specs.Choice.{when}
+use mathlib.Core.Path.{_≡_, refl, sym, ap, _∙_}
+use lib.Dec.{eqb, leb}
+use lib.ListN.{getD, take, drop}
+use Rattle.basis.specs.Choice.{when, _and_}
 use Rattle.basis.proofs.Choices.{when-true, when-false}
-use Rattle.collect.specs.Slots.{sameOf, slotsOf, begunOf}
+use Rattle.collect.specs.Slots.{heldOf, sameOf, begunOf, storedOf}
 use Rattle.collect.specs.declared.Collection.{Collection}
-use Rattle.collect.proofs.Sounds.{begun-slots, sound-slots, slots-most}
+use Rattle.collect.proofs.Sounds.{sound-slots}
 use Rattle.reader.specs.Read.{readOf}
 use Rattle.reader.specs.declared.read.Reading.{Reading}
-use Rattle.sign.specs.Sound.{soundOf}
-use Rattle.sign.specs.Join.{staysOf, placedOf, slotOf, goesInto, beginsOf, takingOf, joinOf, Right, Open}
-use Rattle.sign.specs.Receive.{heardOf, receiveOf}
+use Rattle.reader.specs.declared.read.Reading.the-variants.{Query as QueryRead, Reset as ResetRead, Normal, Refused as Unread}
+use Rattle.machine.specs.Sound.{soundOf as runSound}
+use Rattle.hear.specs.Hear.{heardOf as heardBy, hearOf}
+use Rattle.hear.specs.Join.{slotOf, goesBy, beginsOf, joinBy, stayOf, wholeOf, countOf, Right, Open}
+use Rattle.hear.specs.declared.Heard.{Heard}
+use Rattle.hear.specs.declared.Outcome.the-variants.{Repeat, Stored, Refused}
+use Rattle.hear.proofs.Joining.{into-open}
+use Rattle.hear.proofs.Hears.{framed-hears, unframed-hears}
+use Rattle.sign.specs.Sound.{framedOf, soundOf}
+use Rattle.sign.specs.Join.{staysOf, storesOf, releasedOf, countedOf, joinOf}
+use Rattle.sign.specs.Receive.{behindOf, heardOf, receiveOf}
 use Rattle.sign.specs.declared.Sign.{Sign}
 use Rattle.sign.specs.declared.Received.{Received}
-use Rattle.sign.specs.declared.Outcome.the-variants.{Repeat, Refused}
-use Rattle.sign.proofs.Sounds.{sound-parts}
+use Rattle.sign.proofs.Sounds.{sound-parts, sound-framed}
 
 -- a free position takes a right packet
-pub into-open : (c : Collection) (total position len : ℕ) → slotsOf (c .total) 0 (c .lens) (c .room) ≡ true → c .total ≡ total → Right total position len
-    → getD (c .lens) position 0 ≡ 0 → Open c position len
-into-open c total position len e same right free =
-    record { right = subst (λ (n : ℕ). Right n position len) (sym same) right; slots = e; free = free }
-
 pub goes-open : (s : Sign) (total position len : ℕ) → soundOf s ≡ true → s .collection .total ≡ total → Right total position len
     → getD (s .collection .lens) position 0 ≡ 0 → Open (s .collection) position len
 goes-open s total position len e = into-open (s .collection) total position len (sound-slots (s .last) (s .collection) (sound-parts s e .collection))
-
--- the collection that a packet goes into has sound slots
-pub taking-slots : (s : Sign) (id total : ℕ) (c : Collection) → soundOf s ≡ true → c ≡ takingOf (s .collection) id total
-    → slotsOf (c .total) 0 (c .lens) (c .room) ≡ true
-unfolding begunOf
-taking-slots s id total c e w =
-    subst (λ (x : Collection). slotsOf (x .total) 0 (x .lens) (x .room) ≡ true) (sym w) (go (beginsOf (s .collection) id))
-  where
-    go : (t : Bool)
-        → slotsOf (when t (begunOf id total) (s .collection) .total) 0 (when t (begunOf id total) (s .collection) .lens) (when t (begunOf id total) (s .collection) .room)
-        ≡ true
-    go true = begun-slots id total
-    go false = sound-slots (s .last) (s .collection) (sound-parts s e .collection)
-
--- a packet that begins finds its position free
-pub begun-goes : (s : Sign) (id total position : ℕ) (part : List ℕ) → Right total position (length part)
-    → goesInto s (begunOf id total) total position part ≡ placedOf s (begunOf id total) position part
-unfolding begunOf
-begun-goes s id total position part r =
-    let free : getD (replicate {A = ℕ} 6 0) position 0 ≡ 0 = getD-replicate 6 position 0 0 (omega (arith, r .below, r .most)) in
-    search (eq-eqb total total refl, eq-eqb (getD (replicate {A = ℕ} 6 0) position 0) 0 free)
-
--- neither a repeat nor Busy: a packet is joined by what it goes into
-pub join-into : (s : Sign) (id total position : ℕ) (part : List ℕ) (c : Collection) (r : Received) → Right total position (length part)
-    → (id ≡ s .last → ⊥)
-    → s .run .len ≡ 0
-    → c ≡ takingOf (s .collection) id total
-    → r ≡ goesInto s c total position part
-    → r ≡ joinOf s id total position part
-unfolding joinOf
-join-into s id total position part c r right other ready ec er =
-    er
-    ∙ ap (λ (x : Collection). goesInto s x total position part) ec
-    ∙ go (beginsOf (s .collection) id)
-    ∙ sym
-    (when-false (eqb id (s .last)) (staysOf s Repeat) _ (ne-eqb id (s .last) other)
-    ∙ when-false (not (eqb (s .run .len) 0)) (staysOf s (Refused 12)) _ (ap not (eq-eqb (s .run .len) 0 ready)))
-  where
-    go : (t : Bool)
-        → goesInto s (when t (begunOf id total) (s .collection)) total position part
-        ≡ when t (placedOf s (begunOf id total) position part) (goesInto s (s .collection) total position part)
-    go true = begun-goes s id total position part right
-    go false = refl
-
--- what is held at a position has at most 14 bytes
-pub held-most-14 : (c : Collection) (position : ℕ) → slotsOf (c .total) 0 (c .lens) (c .room) ≡ true → getD (c .lens) position 0 ≤ 14
-held-most-14 c position e = slots-most (c .total) 0 (c .lens) (c .room) position e
-
--- a position that is held: equal data Repeat, other data 13
-module _ (s : Sign) (c : Collection) (total position : ℕ) (part : List ℕ) (same : c .total ≡ total) (held : getD (c .lens) position 0 ≡ 0 → ⊥) where
-  held-goes : goesInto s c total position part ≡ when (sameOf (slotOf c position) part) (staysOf s Repeat) (staysOf s (Refused 13))
-  held-goes =
-      ap
-      (λ (t : Bool).
-      when (not t) (staysOf s (Refused 13))
-      (when (eqb (getD (c .lens) position 0) 0) (placedOf s c position part)
-      (when (sameOf (slotOf c position) part) (staysOf s Repeat) (staysOf s (Refused 13)))))
-      (eq-eqb (c .total) total same)
-      ∙ when-false (eqb (getD (c .lens) position 0) 0) (placedOf s c position part)
-      (when (sameOf (slotOf c position) part) (staysOf s Repeat) (staysOf s (Refused 13)))
-      (ne-eqb (getD (c .lens) position 0) 0 held)
-
-  cut : (n : ℕ) → take (14 * position + n - 14 * position) (drop (14 * position) (c .room)) ≡ take n (drop (14 * position) (c .room))
-  cut n = let e : 14 * position + n - 14 * position ≡ n = omega arith in ap (λ (k : ℕ). take k (drop (14 * position) (c .room))) e
-
-  pub goes-by : (t u : Bool) (r : Received) → t ≡ sameOf (take (14 * position + getD (c .lens) position 0 - 14 * position) (drop (14 * position) (c .room))) part
-      → t ≡ u → r ≡ when u (staysOf s Repeat) (staysOf s (Refused 13)) → r ≡ goesInto s c total position part
-  goes-by t u r e f q =
-      let w : u ≡ sameOf (slotOf c position) part = sym f ∙ e ∙ ap (λ (x : List ℕ). sameOf x part) (cut (getD (c .lens) position 0)) in
-      q ∙ ap (λ (x : Bool). when x (staysOf s Repeat) (staysOf s (Refused 13))) w ∙ sym held-goes
 
 -- bytes that come to a sound record are judged by what is read of them
 pub sound-receives : (s : Sign) (mid : ℕ) (b : List ℕ) → soundOf s ≡ true → receiveOf s mid b ≡ heardOf s b (readOf mid b)
@@ -111,6 +41,79 @@ pub unsound-receives : (s : Sign) (mid : ℕ) (b : List ℕ) → soundOf s ≡ f
 unfolding receiveOf
 unsound-receives s mid b e = when-false (soundOf s) (heardOf s b (readOf mid b)) (staysOf s (Refused 16)) e
 
-pub reads-as : (s : Sign) (mid : ℕ) (b : List ℕ) (x y : Reading) (r : Received) → soundOf s ≡ true → x ≡ readOf mid b → x ≡ y → r ≡ heardOf s b y
+-- the record behind what was heard
+module _ (s : Sign) where
+  abbrev after : Heard → Received
+  after h = behindOf s (h .collection) (h .outcome)
+
+  after-count : (c : Collection) → after (countOf c) ≡ countedOf s c
+  after-count c = go (leb (c .total) (heldOf (c .lens)))
+    where
+      go : (t : Bool) → after (when t (wholeOf c) (stayOf c Stored)) ≡ when t (releasedOf s c) (storesOf s c)
+      go true = refl
+      go false = refl
+
+  after-join : (id total position : ℕ) (part : List ℕ)
+      → after (joinBy (stayOf (s .collection)) countOf (s .last) (s .collection) (s .run .len) id total position part) ≡ joinOf s id total position part
+  unfolding joinOf
+  after-join id total position part =
+      go (eqb id (s .last)) (eqb (s .run .len) 0) (beginsOf c id) (eqb (c .total) total) (eqb (getD (c .lens) position 0) 0) (sameOf (slotOf c position) part)
+    where
+      c : Collection
+      c = s .collection
+
+      go : (t u v w x y : Bool)
+          → after
+          (when t (stayOf c Repeat)
+          (when (not u) (stayOf c (Refused 12))
+          (when v (countOf (storedOf (begunOf id total) position part))
+          (when (not w) (stayOf c (Refused 13))
+          (when x (countOf (storedOf c position part)) (when y (stayOf c Repeat) (stayOf c (Refused 13))))))))
+          ≡ when t (staysOf s Repeat)
+          (when (not u) (staysOf s (Refused 12))
+          (when v (countedOf s (storedOf (begunOf id total) position part))
+          (when (not w) (staysOf s (Refused 13))
+          (when x (countedOf s (storedOf c position part)) (when y (staysOf s Repeat) (staysOf s (Refused 13)))))))
+      go true u v w x y = refl
+      go false false v w x y = refl
+      go false true true w x y = after-count (storedOf (begunOf id total) position part)
+      go false true false false x y = refl
+      go false true false true true y = after-count (storedOf c position part)
+      go false true false true false true = refl
+      go false true false true false false = refl
+
+  after-read : (b : List ℕ) (x : Reading) → after (heardBy (s .last) (s .collection) (s .run .len) b x) ≡ heardOf s b x
+  after-read b QueryRead = refl
+  after-read b ResetRead = refl
+  after-read b (Normal id total position len) = after-join id total position (take len (drop 5 b))
+  after-read b (Unread n) = refl
+
+-- a record whose run is sound receives what is heard of the rest of it
+pub received-is : (s : Sign) (mid : ℕ) (b : List ℕ) (h : Heard) (r : Received) → runSound (s .run) ≡ true
+    → h ≡ hearOf (s .last) (s .collection) (s .run .len) mid b
+    → r ≡ behindOf s (h .collection) (h .outcome)
     → r ≡ receiveOf s mid b
-reads-as s mid b x y r e read told q = q ∙ ap (heardOf s b) (sym told ∙ read) ∙ sym (sound-receives s mid b e)
+received-is s mid b h r run eh er = er ∙ ap (after s) eh ∙ go (framedOf s) refl
+  where
+    sound : soundOf s ≡ framedOf s
+    sound = sound-framed s ∙ ap (λ (t : Bool). framedOf s and t) run ∙ whole (framedOf s)
+      where
+        whole : (t : Bool) → t and true ≡ t
+        whole true = refl
+        whole false = refl
+
+    go : (t : Bool) → framedOf s ≡ t → after s (hearOf (s .last) (s .collection) (s .run .len) mid b) ≡ receiveOf s mid b
+    go true e =
+        ap (after s) (framed-hears (s .last) (s .collection) (s .run .len) mid b e)
+        ∙ after-read s b (readOf mid b)
+        ∙ sym (sound-receives s mid b (sound ∙ e))
+    go false e =
+        ap (after s) (unframed-hears (s .last) (s .collection) (s .run .len) mid b e) ∙ sym (unsound-receives s mid b (sound ∙ e))
+
+-- a record whose run is not sound receives nothing
+pub unsound-run : (s : Sign) (mid : ℕ) (b : List ℕ) → runSound (s .run) ≡ false → receiveOf s mid b ≡ staysOf s (Refused 16)
+unsound-run s mid b e = unsound-receives s mid b (sound-framed s ∙ ap (λ (t : Bool). framedOf s and t) e ∙ none (framedOf s))
+  where
+    none : (t : Bool) → t and false ≡ false
+    none true = refl
+    none false = refl

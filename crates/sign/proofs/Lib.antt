@@ -3,9 +3,8 @@ pub mod Driver
 pub mod Joining
 pub mod Keeps
 pub mod Only
-pub mod Packets
 pub mod Punctual
-pub mod Places
+pub mod Releases
 pub mod Sounds
 pub mod Stepping
 pub mod Tells

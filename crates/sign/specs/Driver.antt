@@ -10,8 +10,8 @@ use Rattle.machine.specs.declared.Answer.{Answer}
 use Rattle.sign.specs.Receive.{receiveOf}
 use Rattle.sign.specs.Step.{stepOf}
 use Rattle.sign.specs.declared.Sign.{Sign}
-use Rattle.sign.specs.declared.Outcome.{Outcome}
-use Rattle.sign.specs.declared.Outcome.the-variants.{Query, Reset, Repeat, Stored, Released, Refused}
+use Rattle.hear.specs.declared.Outcome.{Outcome}
+use Rattle.hear.specs.declared.Outcome.the-variants.{Query, Reset, Repeat, Stored, Released, Refused}
 
 -- whether an outcome may come with another record: not a query, a repeat or a refusal
 abbrev pub movesOf : Outcome → Bool

@@ -1,23 +1,20 @@
--- A normal packet that passed the reader, judged in 01's order and joined.
-use Prim.Native.Nat.{ℕ, _+_, _*_, _≤_, _<_}
+-- A normal packet that passed the reader, judged in 01's order and joined: the order is `hear`'s, and here are the records behind it.
+use Prim.Native.Nat.{ℕ}
 use mathlib.Core.List.{List}
-use mathlib.Core.Bool.{Bool, true, not}
-use mathlib.Core.Path.{_≡_}
-use lib.Dec.{eqb, leb}
-use lib.ListN.{length, getD, take, drop, replicate}
+use lib.ListN.{length, replicate}
 use Rattle.basis.specs.Bytes.{laid}
-use Rattle.basis.specs.Choice.{when, _or_}
 use Rattle.judge.specs.Verdict.{judgeOf}
 use Rattle.judge.specs.declared.Verdict.{Verdict}
 use Rattle.judge.specs.declared.Verdict.the-variants.{Finite, Endless, Refused as NoProgram}
-use Rattle.collect.specs.Slots.{heldOf, slotsOf, joinedOf, sameOf, begunOf, noneOf, storedOf}
+use Rattle.collect.specs.Slots.{joinedOf, noneOf, storedOf}
 use Rattle.collect.specs.declared.Collection.{Collection}
 use Rattle.machine.specs.Step.{outside, startedOf}
 use Rattle.machine.specs.declared.Run.{Run}
 use Rattle.sign.specs.declared.Sign.{Sign}
 use Rattle.sign.specs.declared.Received.{Received}
-use Rattle.sign.specs.declared.Outcome.{Outcome}
-use Rattle.sign.specs.declared.Outcome.the-variants.{Repeat, Stored, Released, Refused}
+use Rattle.hear.specs.Join.{countBy, goesBy, joinBy}
+use Rattle.hear.specs.declared.Outcome.{Outcome}
+use Rattle.hear.specs.declared.Outcome.the-variants.{Stored, Released}
 
 -- nothing changes, and no body comes with the answer
 unfoldable pub staysOf : Sign → Outcome → Received
@@ -49,63 +46,18 @@ releasedOf s c = releaseOf s (c .id) (joinedOf (c .lens) (c .room))
 
 -- Released if all N are held, otherwise Stored
 abbrev pub countedOf : Sign → Collection → Received
-countedOf s c = when (leb (c .total) (heldOf (c .lens))) (releasedOf s c) (storesOf s c)
+countedOf s c = countBy (storesOf s) (releasedOf s) c
 
 abbrev pub placedOf : Sign → Collection → ℕ → List ℕ → Received
 placedOf s c position part = countedOf s (storedOf c position part)
 
--- the data held at a position
-abbrev pub slotOf : Collection → ℕ → List ℕ
-slotOf c position = take (getD (c .lens) position 0) (drop (14 * position) (c .room))
-
--- other N than the collection's: 13; position already held: equal data Repeat, other data 13
-abbrev pub goesInto : Sign → Collection → ℕ → ℕ → List ℕ → Received
-goesInto s c total position part =
-    when (not (eqb (c .total) total)) (staysOf s (Refused 13))
-    (when (eqb (getD (c .lens) position 0) 0) (placedOf s c position part)
-    (when (sameOf (slotOf c position) part) (staysOf s Repeat) (staysOf s (Refused 13))))
-
 -- a packet of the ID that is being collected
 abbrev pub goesOn : Sign → ℕ → ℕ → List ℕ → Received
-goesOn s total position part = goesInto s (s .collection) total position part
+goesOn s total position part = goesBy (staysOf s) (countedOf s) (s .collection) total position part
 
--- none collected, or another ID than the one collected
-abbrev pub beginsOf : Collection → ℕ → Bool
-beginsOf c id = eqb (c .total) 0 or not (eqb (c .id) id)
-
--- the collection that a packet goes into: a new one where it begins
-abbrev pub takingOf : Collection → ℕ → ℕ → Collection
-takingOf c id total = when (beginsOf c id) (begunOf id total) c
-
--- the last completed ID: Repeat; Busy: 12; another ID begins; the same goes on
 unfoldable pub joinOf : Sign → ℕ → ℕ → ℕ → List ℕ → Received
-joinOf s id total position part =
-    when (eqb id (s .last)) (staysOf s Repeat)
-    (when (not (eqb (s .run .len) 0)) (staysOf s (Refused 12))
-    (when (beginsOf (s .collection) id) (placedOf s (begunOf id total) position part) (goesOn s total position part)))
+joinOf s id total position part = joinBy (staysOf s) (countedOf s) (s .last) (s .collection) (s .run .len) id total position part
 
 -- a run of a body that lies in a room of 84 bytes, as the code makes it
 abbrev pub startOf : List ℕ → ℕ → Run → Run
 startOf room len run = record { body = room; len = len; place = 0; inner = outside; settings = run .settings }
-
--- what the reader lets pass: N 1 to 6, position below N, 1 to 14 data bytes, and 14 before the last
-pub record Right (total position len : ℕ) : Type 0 where
-  pub least : 1 ≤ total
-  pub most : total ≤ 6
-  pub below : position < total
-  pub some : 1 ≤ len
-  pub few : len ≤ 14
-  pub full : position + 1 < total → len ≡ 14
-
--- a collection with a free position for such a packet
-pub record Open (c : Collection) (position len : ℕ) : Type 0 where
-  pub right : Right (c .total) position len
-  pub slots : slotsOf (c .total) 0 (c .lens) (c .room) ≡ true
-  pub free : getD (c .lens) position 0 ≡ 0
-
--- a collection of which all packets are held
-pub record Whole (c : Collection) : Type 0 where
-  pub least : 1 ≤ c .total
-  pub most : c .total ≤ 6
-  pub slots : slotsOf (c .total) 0 (c .lens) (c .room) ≡ true
-  pub full : c .total ≤ heldOf (c .lens)

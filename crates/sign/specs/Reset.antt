@@ -10,7 +10,7 @@ use Rattle.machine.specs.Step.{readyOf}
 use Rattle.sign.specs.Sound.{soundOf}
 use Rattle.sign.specs.declared.Sign.{Sign}
 use Rattle.sign.specs.declared.Cleared.{Cleared}
-use Rattle.sign.specs.declared.Outcome.the-variants.{Reset, Refused}
+use Rattle.hear.specs.declared.Outcome.the-variants.{Reset, Refused}
 
 -- pace 4, one scan, AUX floating
 abbrev pub startSettings : ℕ → ℕ → Settings

@@ -9,6 +9,7 @@ use Rattle.reply.specs.Reply.{isLast}
 use Rattle.collect.specs.Sound.{soundOf as collectionSound}
 use Rattle.collect.specs.declared.Collection.{Collection}
 use Rattle.machine.specs.Sound.{soundOf as runSound}
+use Rattle.hear.specs.Frame.{framedBy}
 use Rattle.sign.specs.declared.Sign.{Sign}
 
 -- Busy collects nothing
@@ -16,9 +17,6 @@ abbrev pub aloneOf : Sign → Bool
 aloneOf s = eqb (s .run .len) 0 or eqb (s .collection .total) 0
 
 -- all of it but the run
-abbrev pub framedBy : ℕ → Collection → ℕ → Bool
-framedBy last c len = isLast last and collectionSound last c and (eqb len 0 or eqb (c .total) 0)
-
 abbrev pub framedOf : Sign → Bool
 framedOf s = framedBy (s .last) (s .collection) (s .run .len)
 

@@ -2,11 +2,9 @@
 // No public call has a `requires`: each answers for any record and any bytes, 16 for an unsound record before all else.
 //   sound    which records are sound                               "A record is sound if: .."
 //   reset    power-on and reset                                    "Reset drops collection and body and sets Ready, .."
-//   join     a normal packet judged and joined                     "A normal packet that passed the reader is judged in this order"
-//   receive  bytes off the line                                    "Query changes nothing. Reset .."
+//   receive  the record behind what `hear` makes of bytes           "nothing is being collected, and the ID is last completed"
 //   steps    one step of the running program                       "A step performs one command"
 //   tell     the reply to a query, and a copy of the running body   "One call copies the running body (none when Ready)"
-mod join;
 mod receive;
 mod reset;
 mod sound;
@@ -14,26 +12,17 @@ mod steps;
 mod tell;
 
 use collect::Collection;
-use judge::Verdict;
+use hear::Outcome;
 use machine::Answer;
 use machine::Run;
+pub use receive::start;
+pub use reset::fresh;
 
 // The record: last completed ID, the packets being collected, and the running program with the settings.
 pub struct Sign {
     pub last: u8,
     pub collection: Collection,
     pub run: Run,
-}
-
-// What a sign makes of the bytes that came: the number for no, or what they were. A body released comes with its verdict, and
-// stands beside this answer.
-pub enum Outcome {
-    Query,
-    Reset,
-    Repeat,
-    Stored,
-    Released(Verdict),
-    Refused(u8),
 }
 
 // The record behind a receive, its outcome, and the body that was released: `len` bytes of it, zeros behind.

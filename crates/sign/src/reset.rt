@@ -1,9 +1,9 @@
 // Power-on and reset. Answers to 01: "Reset drops collection and body and sets Ready, pace 4, one scan, AUX floating, last ID 41h; dim
 // threshold and forced brightness stay. Power-on is the same with threshold 16 and no forced brightness."
 use crate::Cleared;
-use crate::Outcome;
 use crate::Sign;
 use collect::begun;
+use hear::Outcome;
 use machine::Loop;
 use machine::Run;
 use perform::Settings;
@@ -11,7 +11,7 @@ ghost use mathlib.Core.Path.{_≡_};
 ghost use Rattle.sign.specs.Reset.{freshOf, clearedOf, powerOn};
 
 // The record that a reset leaves where threshold and brightness are these.
-pub(crate) fn fresh(dim: u8, bright: u8) -> Sign
+pub fn fresh(dim: u8, bright: u8) -> Sign
     ensures { λ r. ⌜ r ≡ freshOf dim bright ⌝ }
 {
     let settings = Settings {

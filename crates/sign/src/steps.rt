@@ -2,7 +2,7 @@
 // part of soundness is tested by its step.
 use crate::Sign;
 use crate::Stepped;
-use crate::sound::framed;
+use hear::framed;
 use machine::Answer;
 ghost use mathlib.Core.Path.{_≡_};
 ghost use Rattle.sign.specs.Step.{stepOf};

@@ -15,7 +15,7 @@ use Rattle.basis.specs.Bytes.{laid}
 use Rattle.basis.proofs.Choices.{when-false}
 use Rattle.basis.proofs.Laid.{laid-lent, length-laid}
 use Rattle.sign.specs.Receive.{programOf, placeOf}
-use Rattle.sign.specs.declared.Outcome.{Outcome}
+use Rattle.hear.specs.declared.Outcome.{Outcome}
 use Rattle.words.specs.Words.{wordOf, wordsOf, resultOf}
 use Rattle.words.specs.Told.{answerRow, firstOr, toldIn, flagOf, outcomeOf, receivedBytes}
 

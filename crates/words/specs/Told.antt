@@ -21,8 +21,8 @@ use Rattle.machine.specs.declared.Answer.the-variants.{Did, Idle, Refused as No
 use Rattle.reckon.specs.declared.reckon.Foretold.{Foretold}
 use Rattle.reckon.specs.declared.reckon.Foretold.the-variants.{Ends, Endless as Never, Refused as NoForecast}
 use Rattle.sign.specs.Receive.{programOf, placeOf}
-use Rattle.sign.specs.declared.Outcome.{Outcome}
-use Rattle.sign.specs.declared.Outcome.the-variants.{Query, Reset, Repeat, Stored, Released, Refused}
+use Rattle.hear.specs.declared.Outcome.{Outcome}
+use Rattle.hear.specs.declared.Outcome.the-variants.{Query, Reset, Repeat, Stored, Released, Refused}
 use Rattle.words.specs.Words.{resultOf, wordsOf}
 
 -- 252: an answer shorter than what is to be told

@@ -1,10 +1,10 @@
 // A sign that received or stepped. Answers to 01: "Released: the data joined by position is the body and comes with the answer", and "A
 // step performs one command and answers its kind, ..".
 use crate::laying::lay;
+use hear::Outcome;
 use judge::Verdict;
 use perform::Performed;
 use program::Kind;
-use sign::Outcome;
 ghost use mathlib.Core.Path.{_≡_};
 ghost use Rattle.machine.specs.declared.Answer.the-variants.{Idle};
 ghost use Rattle.sign.specs.Receive.{programOf, placeOf};

@@ -3,7 +3,7 @@ use mathlib.Core.List.{[]}
 use mathlib.Core.Path.{refl, _∙_}
 use Rattle.basis.specs.Bytes.{laid}
 use Rattle.sign.specs.Receive.{receiveOf, numberOf}
-use Rattle.sign.specs.declared.Outcome.the-variants.{Refused}
+use Rattle.hear.specs.declared.Outcome.the-variants.{Refused}
 use Rattle.image.specs.Layout.{imageOf, recordOf}
 use Rattle.words.specs.Told.{toldIn}
 use Rattle.cabi.specs.Calls.{keptOf}

@@ -1,7 +1,7 @@
 -- `yd_reset` lays the image of the reset record; a refusal leaves the image.
 use mathlib.Core.Path.{refl, _∙_}
 use Rattle.cabi.proofs.Lays.{reset-answers, not-refused}
-use Rattle.sign.specs.declared.Outcome.the-variants.{Refused}
+use Rattle.hear.specs.declared.Outcome.the-variants.{Refused}
 use Rattle.image.specs.Layout.{imageOf}
 use Rattle.basis.proofs.Tests.{tests}
 use borrow.Author.Needs.{needs}

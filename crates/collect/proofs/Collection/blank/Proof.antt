@@ -12,11 +12,11 @@ use Rattle.collect.proofs.Turns.{blank-slots}
 use Rattle.collect.proofs.Collection.blank.Statement.{statement}
 use Rattle.collect.proofs.Collection.blank.Tie as tie
 
-slice-aggregate-zeros : tie.Need-slice-aggregate-zeros
-slice-aggregate-zeros c = search needs
+slice-aggregate-clean : tie.Need-slice-aggregate-clean
+slice-aggregate-clean c = search needs
 
-zeros-requires : tie.Need-zeros-requires
-zeros-requires c κs = search needs
+clean-requires : tie.Need-clean-requires
+clean-requires c κs = search needs
 
 returns : tie.Need-returns
 returns c =
@@ -24,13 +24,13 @@ returns c =
     let lens : length (a .lens) ≡ 6 = search (needs, c .before .before .before .before .before .good .0) in
     let room : length (a .room) ≡ 84 = search (needs, c .before .before .before .before .before .good .0) in
     let size : length (a .room) ≡ 14 * length (a .lens) = omega arith in
-    sym (blank-slots 0 (a .lens) (a .room) size ∙ ap (λ (t : Bool). t and zerosOf (a .room)) (sym (c .before .zeros .ensures) ∙ not-true _ (c .if1 .taken)))
+    sym (blank-slots 0 (a .lens) (a .room) size ∙ ap (λ (t : Bool). t and zerosOf (a .room)) (sym (c .before .clean .ensures) ∙ not-true _ (c .if1 .taken)))
 
-slice-aggregate-zeros-2 : tie.Need-slice-aggregate-zeros-2
-slice-aggregate-zeros-2 c = search needs
+slice-aggregate-clean-2 : tie.Need-slice-aggregate-clean-2
+slice-aggregate-clean-2 c = search needs
 
-zeros-requires-2 : tie.Need-zeros-requires-2
-zeros-requires-2 c κs = search needs
+clean-requires-2 : tie.Need-clean-requires-2
+clean-requires-2 c κs = search needs
 
 returns-2 : tie.Need-returns-2
 returns-2 c =
@@ -38,8 +38,8 @@ returns-2 c =
     let lens : length (a .lens) ≡ 6 = search (needs, c .before .before .before .before .before .before .before .good .0) in
     let room : length (a .room) ≡ 84 = search (needs, c .before .before .before .before .before .before .before .good .0) in
     let size : length (a .room) ≡ 14 * length (a .lens) = omega arith in
-    c .zeros2 .ensures
-    ∙ sym (blank-slots 0 (a .lens) (a .room) size ∙ ap (λ (t : Bool). t and zerosOf (a .room)) (sym (c .before .before .before .zeros .ensures) ∙ not-false _ (c .before .before .if1 .left)))
+    c .clean2 .ensures
+    ∙ sym (blank-slots 0 (a .lens) (a .room) size ∙ ap (λ (t : Bool). t and zerosOf (a .room)) (sym (c .before .before .before .clean .ensures) ∙ not-false _ (c .before .before .if1 .left)))
 
 pub blank-spec : {M : Type 1} → statement M
-blank-spec = tie.close (tie.spec slice-aggregate-zeros zeros-requires returns slice-aggregate-zeros-2 zeros-requires-2 returns-2)
+blank-spec = tie.close (tie.spec slice-aggregate-clean clean-requires returns slice-aggregate-clean-2 clean-requires-2 returns-2)

@@ -1,7 +1,7 @@
 -- `slots` tests slot after slot: what is left of them decides.
 use Rattle.basis.proofs.Tests.{tests}
 use borrow.Author.Needs.{needs}
-use Rattle.collect.proofs.Turns.{rule-most, slot-cut, slot-wrong, slot-unclean, slot-next, slots-past}
+use Rattle.collect.proofs.Turns.{rule-most, part-length, slot-cut, slot-wrong, slot-unclean, slot-next, slots-past}
 use Rattle.collect.specs.Slots.{slotsOf}
 use borrow.Author.Tests.{not-true, not-false}
 use lib.ListN.{length, getD, drop}
@@ -37,53 +37,26 @@ returns c =
 mul-from : tie.Need-mul-from Inv-loop μ-loop
 mul-from c = search needs
 
-cast-from : tie.Need-cast-from Inv-loop μ-loop
-cast-from c = search needs
-
-add-from : tie.Need-add-from Inv-loop μ-loop
-add-from c =
-    let a = c .before .before .before .before .before .before .args .self in
-    let l = c .before .before .before .loop in
-    let s : length (a .lens) ≡ 6 = search needs in
-    let len = getD (a .lens) (l .i) 0 in
-    let most : len ≤ 14 = rule-most (a .total) (l .i) len (sym (c .before .rule .ensures) ∙ not-false _ (c .if1 .left)) in
-    omega arith
-
-mul-to : tie.Need-mul-to Inv-loop μ-loop
-mul-to c = search needs
-
 add-to : tie.Need-add-to Inv-loop μ-loop
 add-to c = search needs
 
-sub-zeros : tie.Need-sub-zeros Inv-loop μ-loop
-sub-zeros c =
-    let a = c .before .before .before .before .before .before .args .self in
-    let l = c .before .before .before .loop in
-    let s : length (a .lens) ≡ 6 = search needs in
-    let len = getD (a .lens) (l .i) 0 in
-    let most : len ≤ 14 = rule-most (a .total) (l .i) len (sym (c .before .rule .ensures) ∙ not-false _ (c .if1 .left)) in
+sub-unused : tie.Need-sub-unused Inv-loop μ-loop
+sub-unused c = search needs
+
+part-unused-start : tie.Need-part-unused-start Inv-loop μ-loop
+part-unused-start c = search needs
+
+part-unused-end : tie.Need-part-unused-end Inv-loop μ-loop
+part-unused-end c =
+    let r : length (c .before .before .before .before .before .before .before .args .self .room) ≡ 84 = search needs in
     omega arith
 
-part-zeros-start : tie.Need-part-zeros-start Inv-loop μ-loop
-part-zeros-start c =
-    let a = c .before .before .before .before .before .before .before .args .self in
-    let l = c .before .before .before .before .loop in
-    let s : length (a .lens) ≡ 6 = search needs in
-    let len = getD (a .lens) (l .i) 0 in
-    let most : len ≤ 14 = rule-most (a .total) (l .i) len (sym (c .before .before .rule .ensures) ∙ not-false _ (c .before .if1 .left)) in
-    omega arith
-
-part-zeros-end : tie.Need-part-zeros-end Inv-loop μ-loop
-part-zeros-end c =
-    let a = c .before .before .before .before .before .before .before .args .self in
-    let l = c .before .before .before .before .loop in
-    let s : length (a .lens) ≡ 6 = search needs in
-    let len = getD (a .lens) (l .i) 0 in
+unused-requires : tie.Need-unused-requires Inv-loop μ-loop
+unused-requires c κs =
+    let a = c .before .before .before .before .before .before .before .before .args .self in
+    let l = c .before .before .before .before .before .loop in
     let r : length (a .room) ≡ 84 = search needs in
-    omega arith
-
-zeros-requires : tie.Need-zeros-requires Inv-loop μ-loop
-zeros-requires c κs = search needs
+    part-length (a .room) (l .i) (omega arith)
 
 returns-2 : tie.Need-returns-2 Inv-loop μ-loop
 returns-2 c =
@@ -93,7 +66,7 @@ returns-2 c =
     let len = getD (a .lens) (l .i) 0 in
     let right = sym (c .before .before .before .before .before .rule .ensures) ∙ not-false _ (c .before .before .before .before .if1 .left) in
     let most : len ≤ 14 = rule-most (a .total) (l .i) len right in
-    let found = slot-cut (a .room) (l .i) len most ∙ sym (c .before .zeros .ensures) ∙ not-true _ (c .if2 .taken) in
+    let found = slot-cut (a .room) (l .i) len most ∙ sym (c .before .unused .ensures) ∙ not-true _ (c .if2 .taken) in
     sym (slot-unclean (a .total) (a .lens) (a .room) (l .i) (omega arith) right found) ∙ l .inv .1
 
 add-i : tie.Need-add-i Inv-loop μ-loop
@@ -110,7 +83,7 @@ loop-again c =
     let len = getD (a .lens) (l .i) 0 in
     let right = sym (c .before .before .before .before .before .rule .ensures) ∙ not-false _ (c .before .before .before .before .if1 .left) in
     let most : len ≤ 14 = rule-most (a .total) (l .i) len right in
-    let found = slot-cut (a .room) (l .i) len most ∙ sym (c .before .zeros .ensures) ∙ not-false _ (c .if2 .left) in
+    let found = slot-cut (a .room) (l .i) len most ∙ sym (c .before .unused .ensures) ∙ not-false _ (c .if2 .left) in
     (omega arith, sym (slot-next (a .total) (a .lens) (a .room) (l .i) (omega arith) right found) ∙ l .inv .1)
 
 returns-3 : tie.Need-returns-3 Inv-loop μ-loop
@@ -132,14 +105,11 @@ slots-spec =
     rule-requires
     returns
     mul-from
-    cast-from
-    add-from
-    mul-to
     add-to
-    sub-zeros
-    part-zeros-start
-    part-zeros-end
-    zeros-requires
+    sub-unused
+    part-unused-start
+    part-unused-end
+    unused-requires
     returns-2
     add-i
     loop-less

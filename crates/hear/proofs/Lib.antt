@@ -1,0 +1,4 @@
+pub mod Hears
+pub mod Joining
+pub mod Packets
+pub mod Places

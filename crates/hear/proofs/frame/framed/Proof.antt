@@ -1,0 +1,28 @@
+-- `framed` tests part after part; the first that fails decides.
+use Rattle.basis.proofs.Tests.{tests}
+use borrow.Author.Tests.{not-true, not-false}
+use mathlib.Core.Path.{sym, _∙_}
+use borrow.Author.Needs.{needs}
+use Rattle.hear.proofs.frame.framed.Statement.{statement}
+use Rattle.hear.proofs.frame.framed.Tie as tie
+
+is-last-requires : tie.Need-is-last-requires
+is-last-requires c κs = search needs
+
+returns : tie.Need-returns
+returns c = search (tests, sym (c .before .is-last .ensures) ∙ not-true _ (c .if1 .taken))
+
+sound-requires : tie.Need-sound-requires
+sound-requires c κs = search needs
+
+returns-2 : tie.Need-returns-2
+returns-2 c = search (tests, sym (c .before .before .before .is-last .ensures) ∙ not-false _ (c .before .before .if1 .left), sym (c .before .sound .ensures) ∙ not-true _ (c .if2 .taken))
+
+returns-3 : tie.Need-returns-3
+returns-3 c = search (tests, sym (c .before .before .before .before .is-last .ensures) ∙ not-false _ (c .before .before .before .if1 .left), sym (c .before .before .sound .ensures) ∙ not-false _ (c .before .if2 .left))
+
+returns-4 : tie.Need-returns-4
+returns-4 c = search (tests, sym (c .before .before .before .before .before .is-last .ensures) ∙ not-false _ (c .before .before .before .before .if1 .left), sym (c .before .before .before .sound .ensures) ∙ not-false _ (c .before .before .if2 .left))
+
+pub framed-spec : {M : Type 1} → statement M
+framed-spec = tie.close (tie.spec is-last-requires returns sound-requires returns-2 returns-3 returns-4)

@@ -1,0 +1,46 @@
+-- `join` judges in 01's order: Repeat, 12, then by the collection that the packet goes into.
+use Rattle.basis.proofs.Tests.{tests}
+use Rattle.hear.proofs.Joining.{taking-slots, join-into}
+use borrow.Author.Needs.{needs}
+use Rattle.hear.proofs.join.join.Statement.{statement}
+use Rattle.hear.proofs.join.join.Tie as tie
+
+stays-requires : tie.Need-stays-requires
+stays-requires c κs = search needs
+
+returns : tie.Need-returns
+returns c = search (tests, c .stays .ensures)
+
+stays-requires-2 : tie.Need-stays-requires-2
+stays-requires-2 c κs = search needs
+
+returns-2 : tie.Need-returns-2
+returns-2 c = search (tests, c .stays2 .ensures)
+
+taking-requires : tie.Need-taking-requires
+taking-requires c κs = search needs
+
+goes-into-requires : tie.Need-goes-into-requires
+goes-into-requires c κs =
+    let a = c .before .before .before .before .args in
+    (taking-slots (a .last) (a .collection) (a .id) (a .total) (c .taking .result) (c .before .before .before .before .pre .0) (c .taking .ensures), c .before .before .before .before .pre .1)
+
+returns-3 : tie.Need-returns-3
+returns-3 c =
+    let a = c .before .before .before .before .before .args in
+    join-into (a .last) (a .collection) (a .len) (a .id) (a .total) (a .position) (a .part .now) (c .before .taking .result) (c .goes-into .result) (c .before .before .before .before .before .pre .1) (c .before .before .before .if1 .left)
+    (search needs)
+    (c .before .taking .ensures)
+    (c .goes-into .ensures)
+
+pub join-spec : {M : Type 1} → statement M
+join-spec =
+    tie.close
+    (tie.spec
+    stays-requires
+    returns
+    stays-requires-2
+    returns-2
+    taking-requires
+    goes-into-requires
+    returns-3)

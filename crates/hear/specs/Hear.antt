@@ -1,0 +1,28 @@
+-- Bytes off the line, judged in 01's order: 16, the reader's numbers 1 to 11, query, reset, then the joining of a normal packet.
+use Prim.Native.Nat.{ℕ}
+use mathlib.Core.List.{List}
+use lib.ListN.{take, drop}
+use Rattle.basis.specs.Choice.{when}
+use Rattle.reader.specs.Read.{readOf}
+use Rattle.reader.specs.declared.read.Reading.{Reading}
+use Rattle.reader.specs.declared.read.Reading.the-variants.{Query as QueryRead, Reset as ResetRead, Normal, Refused as Unread}
+use Rattle.collect.specs.declared.Collection.{Collection}
+use Rattle.hear.specs.Frame.{framedBy}
+use Rattle.hear.specs.Join.{joinBy, stayOf, countOf}
+use Rattle.hear.specs.declared.Heard.{Heard}
+use Rattle.hear.specs.declared.Outcome.{Outcome}
+use Rattle.hear.specs.declared.Outcome.the-variants.{Query, Reset, Refused}
+
+-- what was read decides; the data of a normal packet stand at bytes 5 to 5 + len
+abbrev pub readBy : {A : Type 0} → (stays : Outcome → A) → (reset : A) → (joined : ℕ → ℕ → ℕ → List ℕ → A) → List ℕ → Reading → A
+readBy stays reset joined b QueryRead = stays Query
+readBy stays reset joined b ResetRead = reset
+readBy stays reset joined b (Normal id total position len) = joined id total position (take len (drop 5 b))
+readBy stays reset joined b (Unread n) = stays (Refused n)
+
+-- what was read, to a sound collection
+abbrev pub heardOf : ℕ → Collection → ℕ → List ℕ → Reading → Heard
+heardOf last c len b read = readBy (stayOf c) (stayOf c Reset) (joinBy (stayOf c) countOf last c len) b read
+
+unfoldable pub hearOf : ℕ → Collection → ℕ → ℕ → List ℕ → Heard
+hearOf last c len mid b = when (framedBy last c len) (heardOf last c len b (readOf mid b)) (stayOf c (Refused 16))

@@ -1,0 +1,85 @@
+-- A normal packet that passed the reader, judged in 01's order and joined.
+-- The order is said once, of what stays and of what a collection comes to with the packet in it; here those are what is heard, and in
+-- `sign` they are records.
+use Prim.Native.Nat.{ℕ, _+_, _*_, _≤_, _<_}
+use mathlib.Core.List.{List}
+use mathlib.Core.Bool.{Bool, true, not}
+use mathlib.Core.Path.{_≡_}
+use lib.Dec.{eqb, leb}
+use lib.ListN.{length, getD, take, drop}
+use Rattle.basis.specs.Choice.{when, _or_}
+use Rattle.judge.specs.Verdict.{judgeOf}
+use Rattle.judge.specs.declared.Verdict.{Verdict}
+use Rattle.collect.specs.Slots.{heldOf, slotsOf, joinedOf, sameOf, begunOf, storedOf}
+use Rattle.collect.specs.declared.Collection.{Collection}
+use Rattle.hear.specs.declared.Heard.{Heard}
+use Rattle.hear.specs.declared.Outcome.{Outcome}
+use Rattle.hear.specs.declared.Outcome.the-variants.{Repeat, Stored, Released, Refused}
+
+-- Released if all N are held, otherwise Stored
+abbrev pub countBy : {A : Type 0} → (stored released : Collection → A) → Collection → A
+countBy stored released c = when (leb (c .total) (heldOf (c .lens))) (released c) (stored c)
+
+-- the data held at a position
+abbrev pub slotOf : Collection → ℕ → List ℕ
+slotOf c position = take (getD (c .lens) position 0) (drop (14 * position) (c .room))
+
+-- other N than the collection's: 13; position already held: equal data Repeat, other data 13
+abbrev pub goesBy : {A : Type 0} → (stays : Outcome → A) → (counted : Collection → A) → Collection → (total position : ℕ) → List ℕ → A
+goesBy stays counted c total position part =
+    when (not (eqb (c .total) total)) (stays (Refused 13))
+    (when (eqb (getD (c .lens) position 0) 0) (counted (storedOf c position part))
+    (when (sameOf (slotOf c position) part) (stays Repeat) (stays (Refused 13))))
+
+-- none collected, or another ID than the one collected
+abbrev pub beginsOf : Collection → ℕ → Bool
+beginsOf c id = eqb (c .total) 0 or not (eqb (c .id) id)
+
+-- the collection that a packet goes into: a new one where it begins
+abbrev pub takingOf : Collection → ℕ → ℕ → Collection
+takingOf c id total = when (beginsOf c id) (begunOf id total) c
+
+-- the last completed ID: Repeat; Busy: 12; another ID begins; the same goes on
+abbrev pub joinBy : {A : Type 0} → (stays : Outcome → A) → (counted : Collection → A) → (last : ℕ) → Collection → (len id total position : ℕ) → List ℕ → A
+joinBy stays counted last c len id total position part =
+    when (eqb id last) (stays Repeat)
+    (when (not (eqb len 0)) (stays (Refused 12))
+    (when (beginsOf c id) (counted (storedOf (begunOf id total) position part)) (goesBy stays counted c total position part)))
+
+-- heard: the collection stays
+abbrev pub stayOf : Collection → Outcome → Heard
+stayOf c outcome = record { outcome = outcome; collection = c; len = 0 }
+
+-- heard: the data joined by position is the body, and is judged
+abbrev pub wholeOf : Collection → Heard
+wholeOf c =
+    record { outcome = Released (judgeOf (joinedOf (c .lens) (c .room))); collection = c; len = length (joinedOf (c .lens) (c .room)) }
+
+abbrev pub countOf : Collection → Heard
+countOf c = countBy (λ (d : Collection). stayOf d Stored) wholeOf c
+
+-- what the reader lets pass: N 1 to 6, position below N, 1 to 14 data bytes, and 14 before the last
+pub record Right (total position len : ℕ) : Type 0 where
+  pub least : 1 ≤ total
+  pub most : total ≤ 6
+  pub below : position < total
+  pub some : 1 ≤ len
+  pub few : len ≤ 14
+  pub full : position + 1 < total → len ≡ 14
+
+-- a collection with a free position for such a packet
+pub record Open (c : Collection) (position len : ℕ) : Type 0 where
+  pub right : Right (c .total) position len
+  pub slots : slotsOf (c .total) 0 (c .lens) (c .room) ≡ true
+  pub free : getD (c .lens) position 0 ≡ 0
+
+-- a collection of which all packets are held
+pub record Whole (c : Collection) : Type 0 where
+  pub least : 1 ≤ c .total
+  pub most : c .total ≤ 6
+  pub slots : slotsOf (c .total) 0 (c .lens) (c .room) ≡ true
+  pub full : c .total ≤ heldOf (c .lens)
+
+-- what was heard is all of a whole collection, where it is Released
+abbrev pub Sure : Heard → Type 0
+Sure h = (v : Verdict) → h .outcome ≡ Released v → Whole (h .collection) × (h ≡ wholeOf (h .collection))

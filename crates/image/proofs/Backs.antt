@@ -1,21 +1,21 @@
 -- An image read back gives its record, and every image of 186 bytes is some record, which its own image gives again.
 use Prim.Native.Nat.{ℕ, zero, suc, _+_, _%_, _≤_, _<_}
 use mathlib.Core.Bool.{Bool, true, false, not}
-use mathlib.Core.List.{List, [], _∷_, _++_}
+use mathlib.Core.List.{List, [], _∷_, _++_, append-assoc}
 use mathlib.Core.Path.{_≡_, refl, sym, ap, _∙_}
 use native.Mathlib.Omega.{arith}
 use lib.Dec.{eqb}
 use lib.ListN.{length, take, drop, getD, length-append, drop-of-length-le, take-append-drop}
-use lib.Seq.{take-append-seam, drop-append-seam, drop-drop, drop-cons, getD-drop, length-take-le}
+use lib.Seq.{take-at, drop-at, drop-drop, drop-cons, getD-drop, length-take-le}
 use borrow.Author.Tests.{eqb-true, eqb-false}
-use Rattle.basis.specs.Choice.{when, _and_}
+use Rattle.basis.specs.Choice.{when}
 use Rattle.basis.specs.Bytes.{Bytes}
 use Rattle.basis.proofs.Bytes.{byte-at}
 use Rattle.basis.proofs.Choices.{and-parts}
-use Rattle.judge.specs.Standing.{insideOf, standOf}
+use Rattle.judge.specs.Standing.{insideOf}
 use Rattle.judge.specs.declared.Open.{Open}
 use Rattle.judge.specs.declared.Standing.{Standing}
-use Rattle.machine.specs.Sound.{bodyOf, heldOf, restsOf, soundOf as runSound}
+use Rattle.machine.specs.Sound.{bodyOf, heldOf, soundOf as runSound}
 use Rattle.machine.specs.declared.Loop.{Loop}
 use Rattle.machine.specs.declared.Run.{Run}
 use Rattle.machine.proofs.Reached.{Opens, reach-opens}
@@ -23,7 +23,7 @@ use Rattle.machine.proofs.Sounds.{sound-parts as run-parts, busy-at}
 use Rattle.sign.specs.Sound.{soundOf}
 use Rattle.sign.specs.declared.Sign.{Sign}
 use Rattle.sign.proofs.Sounds.{sound-parts}
-use Rattle.image.specs.Layout.{placeBytes, imageOf, recordOf}
+use Rattle.image.specs.Layout.{placeBytes, runBytes, imageOf, recordOf}
 use Rattle.image.proofs.Copies.{part-length}
 
 -- the arrays of a record have their lengths, which its type says
@@ -38,29 +38,23 @@ pub record Small (s : Sign) : Type 0 where
   pub place : s .run .place < 256
   pub behind : s .run .inner .place < 256
 
-take-front : (a b : List ℕ) (n : ℕ) → length a ≡ n → take n (a ++ b) ≡ a
-take-front a b n e = ap (λ (k : ℕ). take k (a ++ b)) (sym e) ∙ take-append-seam a b
-
-drop-front : (a b : List ℕ) (n : ℕ) → length a ≡ n → drop n (a ++ b) ≡ b
-drop-front a b n e = ap (λ (k : ℕ). drop k (a ++ b)) (sym e) ∙ drop-append-seam a b
-
 -- the four parts of an image behind its first three bytes
 module _ (x y z rest : List ℕ) (lx : length x ≡ 6) (ly : length y ≡ 84) (lz : length z ≡ 84) where
   at-lens : take 6 (x ++ (y ++ (z ++ rest))) ≡ x
-  at-lens = take-front x (y ++ (z ++ rest)) 6 lx
+  at-lens = take-at x (y ++ (z ++ rest)) 6 lx
 
   at-room : take 84 (drop 6 (x ++ (y ++ (z ++ rest)))) ≡ y
-  at-room = ap (take 84) (drop-front x (y ++ (z ++ rest)) 6 lx) ∙ take-front y (z ++ rest) 84 ly
+  at-room = ap (take 84) (drop-at x (y ++ (z ++ rest)) 6 lx) ∙ take-at y (z ++ rest) 84 ly
 
   past-room : drop 90 (x ++ (y ++ (z ++ rest))) ≡ z ++ rest
   past-room =
-      sym (drop-drop 84 6 (x ++ (y ++ (z ++ rest)))) ∙ ap (drop 84) (drop-front x (y ++ (z ++ rest)) 6 lx) ∙ drop-front y (z ++ rest) 84 ly
+      sym (drop-drop 84 6 (x ++ (y ++ (z ++ rest)))) ∙ ap (drop 84) (drop-at x (y ++ (z ++ rest)) 6 lx) ∙ drop-at y (z ++ rest) 84 ly
 
   at-body : take 84 (drop 90 (x ++ (y ++ (z ++ rest)))) ≡ z
-  at-body = ap (take 84) past-room ∙ take-front z rest 84 lz
+  at-body = ap (take 84) past-room ∙ take-at z rest 84 lz
 
   past-body : drop 174 (x ++ (y ++ (z ++ rest))) ≡ rest
-  past-body = sym (drop-drop 84 90 (x ++ (y ++ (z ++ rest)))) ∙ ap (drop 84) past-room ∙ drop-front z rest 84 lz
+  past-body = sym (drop-drop 84 90 (x ++ (y ++ (z ++ rest)))) ∙ ap (drop 84) past-room ∙ drop-at z rest 84 lz
 
   at-rest : (i : ℕ) → getD (x ++ (y ++ (z ++ rest))) (174 + i) 0 ≡ getD rest i 0
   at-rest i = sym (getD-drop 174 (x ++ (y ++ (z ++ rest))) i 0) ∙ ap (λ (l : List ℕ). getD l i 0) past-body
@@ -92,19 +86,30 @@ sink-back : (b : Bool) → not (eqb (when b 1 0) 0) ≡ b
 sink-back true = refl
 sink-back false = refl
 
+-- the arrays of an image in one row, behind its first three bytes
+image-row : (s : Sign)
+    → imageOf s
+    ≡ s .last
+    ∷ s .collection .id
+    ∷ s .collection .total
+    ∷ (s .collection .lens ++ (s .collection .room ++ (s .run .body ++ placeBytes (s .run))))
+unfolding imageOf
+image-row s =
+    ap (λ (l : List ℕ). s .last ∷ s .collection .id ∷ s .collection .total ∷ l) (append-assoc (s .collection .lens) (s .collection .room) (runBytes (s .run)))
+
 -- an image of a record has 186 bytes
 pub image-size : (s : Sign) → Shaped s → length (imageOf s) ≡ 186
-unfolding imageOf
 image-size s h =
     let l = s .collection .lens in
     let r = s .collection .room in
     let b = s .run .body in
     let p = placeBytes (s .run) in
-    omega (arith, h .lens, h .room, h .body, length-append l (r ++ (b ++ p)), length-append r (b ++ p), length-append b p)
+    ap length (image-row s)
+    ∙ omega (arith, h .lens, h .room, h .body, length-append l (r ++ (b ++ p)), length-append r (b ++ p), length-append b p)
 
 -- reading an image back gives the record
 pub record-back : (s : Sign) → Shaped s → Small s → recordOf (imageOf s) ≡ s
-unfolding imageOf recordOf
+unfolding recordOf
 record-back s h small =
     let l = s .collection .lens in
     let r = s .collection .room in
@@ -114,7 +119,8 @@ record-back s h small =
     let n : s .run .len % 256 ≡ s .run .len = omega (arith, small .len) in
     let q : s .run .place % 256 ≡ s .run .place = omega (arith, small .place) in
     let k : s .run .inner .place % 256 ≡ s .run .inner .place = omega (arith, small .behind) in
-    fields s _ _ _ _ _ _ _ _ _ _ _ _ (at-lens l r b p (h .lens) (h .room) (h .body))
+    ap recordOf (image-row s)
+    ∙ fields s _ _ _ _ _ _ _ _ _ _ _ _ (at-lens l r b p (h .lens) (h .room) (h .body))
     (at-room l r b p (h .lens) (h .room) (h .body))
     (at-body l r b p (h .lens) (h .room) (h .body))
     (rest 0 ∙ n)
@@ -203,7 +209,7 @@ sink-again (suc (suc x)) h = absurd (omega arith)
 
 -- an image whose AUX byte is 0 or 1 is the image of its record, byte for byte
 pub image-again : (b : List ℕ) → length b ≡ 186 → Bytes b → getD b 183 0 ≤ 1 → imageOf (recordOf b) ≡ b
-unfolding imageOf recordOf
+unfolding recordOf
 image-again b e h sink =
     let n : getD b 177 0 % 256 ≡ getD b 177 0 = omega (arith, byte-at b 177 h) in
     let q : getD b 178 0 % 256 ≡ getD b 178 0 = omega (arith, byte-at b 178 h) in
@@ -219,7 +225,8 @@ image-again b e h sink =
     ap (λ (l : List ℕ). take 6 (drop 3 b) ++ (take 84 (drop 9 b) ++ l)) (cut b 93 84)
     ∙ ap (λ (l : List ℕ). take 6 (drop 3 b) ++ l) (cut b 9 84)
     ∙ cut b 3 6 in
-    rw (n, q, k, sink-again (getD b 183 0) sink)
+    image-row (recordOf b)
+    ∙ rw (n, q, k, sink-again (getD b 183 0) sink)
     (ap (λ (l : List ℕ). getD b 0 0 ∷ getD b 1 0 ∷ getD b 2 0 ∷ (take 6 (drop 3 b) ++ (take 84 (drop 9 b) ++ (take 84 (drop 93 b) ++ l)))) (sym end)
     ∙ ap (λ (l : List ℕ). getD b 0 0 ∷ getD b 1 0 ∷ getD b 2 0 ∷ l) parts
     ∙ sym front)

@@ -20,33 +20,48 @@ settingsBytes σ = σ .pace ∷ σ .scans ∷ when (σ .sink) 1 0 ∷ σ .dim �
 abbrev pub placeBytes : Run → List ℕ
 placeBytes r = r .len % 256 ∷ r .place % 256 ∷ r .inner .place % 256 ∷ r .inner .left ∷ settingsBytes (r .settings)
 
--- last ID; collected ID, packet total, 6 lengths, 84 bytes of room; 84 bytes of body; places and settings
-unfoldable pub imageOf : Sign → List ℕ
-imageOf s =
-    s .last
-    ∷ s .collection .id
-    ∷ s .collection .total
-    ∷ (s .collection .lens ++ (s .collection .room ++ (s .run .body ++ placeBytes (s .run))))
+-- the second half of an image: 84 bytes of body, then places and settings
+abbrev pub runBytes : Run → List ℕ
+runBytes r = r .body ++ placeBytes r
 
--- the record of an image, field by field from the same places; an AUX byte other than 0 sinks
-unfoldable pub recordOf : List ℕ → Sign
-recordOf b =
+-- the first half of an image: last ID; collected ID, packet total, 6 lengths, 84 bytes of room
+abbrev pub frontBytes : ℕ → Collection → List ℕ
+frontBytes last c = last ∷ c .id ∷ c .total ∷ (c .lens ++ c .room)
+
+-- the image of a record: last ID and collection, then the run
+unfoldable pub imageOf : Sign → List ℕ
+imageOf s = frontBytes (s .last) (s .collection) ++ runBytes (s .run)
+
+-- the collection in an image, field by field from the same places
+abbrev pub collectionOf : List ℕ → Collection
+collectionOf b = record { id = getD b 1 0; total = getD b 2 0; lens = take 6 (drop 3 b); room = take 84 (drop 9 b) }
+
+-- the run in an image, field by field from the same places; an AUX byte other than 0 sinks
+abbrev pub runOf : List ℕ → Run
+runOf b =
     record {
-      last = getD b 0 0;
-      collection = record { id = getD b 1 0; total = getD b 2 0; lens = take 6 (drop 3 b); room = take 84 (drop 9 b) };
-      run =
+      body = take 84 (drop 93 b);
+      len = getD b 177 0;
+      place = getD b 178 0;
+      inner = record { place = getD b 179 0; left = getD b 180 0 };
+      settings =
           record {
-            body = take 84 (drop 93 b);
-            len = getD b 177 0;
-            place = getD b 178 0;
-            inner = record { place = getD b 179 0; left = getD b 180 0 };
-            settings =
-                record {
-                  pace = getD b 181 0;
-                  scans = getD b 182 0;
-                  sink = not (eqb (getD b 183 0) 0);
-                  dim = getD b 184 0;
-                  bright = getD b 185 0;
-                };
+            pace = getD b 181 0;
+            scans = getD b 182 0;
+            sink = not (eqb (getD b 183 0) 0);
+            dim = getD b 184 0;
+            bright = getD b 185 0;
           };
     }
+
+-- the record of an image: its last ID, its collection and its run
+unfoldable pub recordOf : List ℕ → Sign
+recordOf b = record { last = getD b 0 0; collection = collectionOf b; run = runOf b }
+
+-- an image with a run laid over its own, all else as it was
+abbrev pub runIn : Run → List ℕ → List ℕ
+runIn r b = take 93 b ++ runBytes r
+
+-- an image with a last ID and a collection laid over its own, all else as it was
+abbrev pub frontIn : ℕ → Collection → List ℕ → List ℕ
+frontIn last c b = frontBytes last c ++ drop 93 b

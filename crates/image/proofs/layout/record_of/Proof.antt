@@ -1,143 +1,21 @@
--- `record_of` copies the three arrays out and reads the other bytes at their places.
+-- `record_of` reads the last ID and puts the two parts beside it.
 use borrow.Author.Needs.{needs}
-use native.Mathlib.Omega.{arith}
-use lib.ListN.{length, take, drop, replicate}
-use mathlib.Core.Path.{_≡_}
-use Rattle.image.proofs.Copies.{filled, part-length, whole-record}
+use Rattle.image.specs.Layout.{recordOf}
 use Rattle.image.proofs.layout.record_of.Statement.{statement}
 use Rattle.image.proofs.layout.record_of.Tie as tie
 
-sub-copy : tie.Need-sub-copy
-sub-copy c = search needs
+array-read-t5 : tie.Need-array-read-t5
+array-read-t5 c = search needs
 
-part-copy-start : tie.Need-part-copy-start
-part-copy-start c = search needs
+collection-of-requires : tie.Need-collection-of-requires
+collection-of-requires c κs = search needs
 
-part-copy-end : tie.Need-part-copy-end
-part-copy-end c = search needs
-
-slice-aggregate-copy : tie.Need-slice-aggregate-copy
-slice-aggregate-copy c = search needs
-
-copy-requires : tie.Need-copy-requires
-copy-requires c κs = search needs
-
-sub-copy-2 : tie.Need-sub-copy-2
-sub-copy-2 c = search needs
-
-part-copy-start-2 : tie.Need-part-copy-start-2
-part-copy-start-2 c = search needs
-
-part-copy-end-2 : tie.Need-part-copy-end-2
-part-copy-end-2 c = search needs
-
-slice-aggregate-copy-2 : tie.Need-slice-aggregate-copy-2
-slice-aggregate-copy-2 c = search needs
-
-copy-requires-2 : tie.Need-copy-requires-2
-copy-requires-2 c κs = search needs
-
-sub-copy-3 : tie.Need-sub-copy-3
-sub-copy-3 c = search needs
-
-part-copy-start-3 : tie.Need-part-copy-start-3
-part-copy-start-3 c = search needs
-
-part-copy-end-3 : tie.Need-part-copy-end-3
-part-copy-end-3 c = search needs
-
-slice-aggregate-copy-3 : tie.Need-slice-aggregate-copy-3
-slice-aggregate-copy-3 c = search needs
-
-copy-requires-3 : tie.Need-copy-requires-3
-copy-requires-3 c κs = search needs
-
-array-read-len : tie.Need-array-read-len
-array-read-len c = search needs
-
-cast-len : tie.Need-cast-len
-cast-len c = search needs
-
-array-read-place : tie.Need-array-read-place
-array-read-place c = search needs
-
-cast-place : tie.Need-cast-place
-cast-place c = search needs
-
-array-read-behind : tie.Need-array-read-behind
-array-read-behind c = search needs
-
-cast-behind : tie.Need-cast-behind
-cast-behind c = search needs
-
-array-read-t35 : tie.Need-array-read-t35
-array-read-t35 c = search needs
-
-array-read-t44 : tie.Need-array-read-t44
-array-read-t44 c = search needs
-
-array-read-t47 : tie.Need-array-read-t47
-array-read-t47 c = search needs
-
-array-read-t51 : tie.Need-array-read-t51
-array-read-t51 c = search needs
-
-array-read-t54 : tie.Need-array-read-t54
-array-read-t54 c = search needs
-
-array-read-t35-2 : tie.Need-array-read-t35-2
-array-read-t35-2 c = search needs
-
-array-read-t54-2 : tie.Need-array-read-t54-2
-array-read-t54-2 c = search needs
-
-array-read-t44-2 : tie.Need-array-read-t44-2
-array-read-t44-2 c = search needs
-
-array-read-t51-2 : tie.Need-array-read-t51-2
-array-read-t51-2 c = search needs
+run-of-requires : tie.Need-run-of-requires
+run-of-requires c κs = search needs
 
 returns : tie.Need-returns
-returns c =
-    let i = c .before .before .before .before .before .before .before .before .before .before .before .before .before .before .before .args .t1 in
-    let size : length i ≡ 186 = search (needs, c .before .before .before .before .before .before .before .before .before .before .before .before .before .before .before .good .0) in
-    whole-record i _ _ _
-    (filled (take 6 (drop 3 i)) (replicate 6 0) _ (part-length i 3 6 (omega arith)) (c .before .before .before .before .before .before .before .before .before .before .before .copy .ensures .1))
-    (filled (take 84 (drop 9 i)) (replicate 84 0) _ (part-length i 9 84 (omega arith)) (c .before .before .before .before .before .before .copy2 .ensures .1))
-    (filled (take 84 (drop 93 i)) (replicate 84 0) _ (part-length i 93 84 (omega arith)) (c .before .copy3 .ensures .1))
+unfolding recordOf
+returns c = rw (c .before .collection-of .ensures, c .run-of .ensures)
 
 pub record-of-spec : {M : Type 1} → statement M
-record-of-spec =
-    tie.close
-    (tie.spec
-    sub-copy
-    part-copy-start
-    part-copy-end
-    slice-aggregate-copy
-    copy-requires
-    sub-copy-2
-    part-copy-start-2
-    part-copy-end-2
-    slice-aggregate-copy-2
-    copy-requires-2
-    sub-copy-3
-    part-copy-start-3
-    part-copy-end-3
-    slice-aggregate-copy-3
-    copy-requires-3
-    array-read-len
-    cast-len
-    array-read-place
-    cast-place
-    array-read-behind
-    cast-behind
-    array-read-t35
-    array-read-t44
-    array-read-t47
-    array-read-t51
-    array-read-t54
-    array-read-t35-2
-    array-read-t54-2
-    array-read-t44-2
-    array-read-t51-2
-    returns)
+record-of-spec = tie.close (tie.spec array-read-t5 collection-of-requires run-of-requires returns)

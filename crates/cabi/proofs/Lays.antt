@@ -24,7 +24,7 @@ use Rattle.sign.specs.declared.Cleared.{Cleared}
 use Rattle.sign.specs.declared.Stepped.{Stepped}
 use Rattle.hear.specs.declared.Outcome.{Outcome}
 use Rattle.hear.specs.declared.Outcome.the-variants.{Query, Reset, Repeat, Stored, Released, Refused}
-use Rattle.sign.proofs.Outcome.{the-type}
+use Rattle.hear.proofs.Outcome.{the-type}
 use Rattle.image.specs.Layout.{imageOf, recordOf}
 use Rattle.words.specs.Words.{wordsOf, wroteOf}
 use Rattle.words.specs.Told.{answerRow, firstOr, toldIn, receivedBytes, stepWords}

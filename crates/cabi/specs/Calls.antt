@@ -15,10 +15,11 @@ use Rattle.reckon.specs.Forecast.{forecastOf}
 use Rattle.machine.specs.declared.Answer.{Answer}
 use Rattle.machine.specs.declared.Answer.the-variants.{Did, Idle, Refused as NoStep}
 use Rattle.sign.specs.Reset.{powerOn, clearedOf}
-use Rattle.sign.specs.Receive.{receiveOf, numberOf}
+use Rattle.sign.specs.Receive.{behindOf, receiveOf, numberOf}
 use Rattle.sign.specs.Step.{stepOf, numberOf as stepNumber}
 use Rattle.sign.specs.Tell.{toldRows}
 use Rattle.sign.specs.declared.Sign.{Sign}
+use Rattle.hear.specs.declared.Heard.{Heard}
 use Rattle.hear.specs.declared.Outcome.{Outcome}
 use Rattle.hear.specs.declared.Outcome.the-variants.{Query, Reset, Repeat, Stored, Released, Refused}
 use Rattle.image.specs.Layout.{imageOf, recordOf}
@@ -81,6 +82,15 @@ abbrev pub receiveAnswer : (image : List ℕ) → ℕ → (bytes answer : List �
 receiveAnswer image mid bytes answer =
     let x = receiveOf (recordOf image) mid bytes in
     lent 100 image answer answer (keptOf (x .outcome) (laid (receivedBytes (x .outcome) (x .body) (x .len)) answer) answer)
+
+-- what was heard beside the run of an image: the image of the record behind it, and what is told of it
+abbrev pub heardImage : Heard → List ℕ → List ℕ
+heardImage h image = keptOf (h .outcome) (imageOf (behindOf (recordOf image) (h .collection) (h .outcome) .sign)) image
+
+abbrev pub heardAnswer : Heard → (image answer : List ℕ) → List ℕ
+heardAnswer h image answer =
+    let x = behindOf (recordOf image) (h .collection) (h .outcome) in
+    keptOf (h .outcome) (toldIn 100 (receivedBytes (x .outcome) (x .body) (x .len)) answer) answer
 
 -- power-on and reset
 abbrev pub powerImage : List ℕ → List ℕ

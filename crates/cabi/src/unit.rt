@@ -1,14 +1,20 @@
 // The sign for C, over an image of its record. Answers to 01, "Joining", "One step, and what it costs", and to 16 and 34.
+use crate::heard::lay_heard;
 use crate::held::SIZE;
+use crate::held::lay_run;
+use crate::held::lent;
 use crate::held::load;
 use crate::held::store;
 use hear::Outcome;
+use hear::framed;
+use hear::hear;
+use image::collection_of;
+use image::run_of;
 use machine::Answer;
 use repeater::shows;
 use sign::Sign;
 use words::lay_idle;
 use words::lay_performed;
-use words::lay_received;
 use words::tell_written;
 ghost use mathlib.Core.Path.{_≡_};
 ghost use mathlib.Core.Bool.{not};
@@ -69,18 +75,14 @@ pub extern "C" fn yd_receive(image: &mut [u8], mid: u8, bytes: &[u8], answer: &m
     if answer.len() < 100 {
         return 252;
     }
-    let sign = load(image);
-    let received = sign.receive(mid, bytes);
-    let next = received.sign;
-    let outcome = received.outcome;
-    let body = received.body;
-    let len = received.len;
-    if let Outcome::Refused(n) = outcome {
-        return n as u32;
+    let held = lent(image);
+    let run = run_of(held);
+    let collection = collection_of(held);
+    if !run.sound() {
+        return 16;
     }
-    lay_received(outcome, &body, len, answer);
-    store(next, image);
-    0
+    let heard = hear(held[0], collection, run.len, mid, bytes);
+    lay_heard(heard, run, image, answer)
 }
 
 // One step.
@@ -96,19 +98,24 @@ pub extern "C" fn yd_step(image: &mut [u8], answer: &mut [u8]) -> u32
     if answer.len() < 28 {
         return 252;
     }
-    let sign = load(image);
-    let stepped = sign.step();
-    let next = stepped.sign;
-    let said = stepped.answer;
+    let held = lent(image);
+    let run = run_of(held);
+    let collection = collection_of(held);
+    if !framed(held[0], collection, run.len) {
+        return 16;
+    }
+    let went = run.step();
+    let next = went.run;
+    let said = went.answer;
     match said {
         Answer::Did(performed) => {
             lay_performed(performed, answer);
-            store(next, image);
+            lay_run(next, image);
             0
         }
         Answer::Idle => {
             lay_idle(answer);
-            store(next, image);
+            lay_run(next, image);
             0
         }
         Answer::Refused(n) => n as u32,

@@ -7,7 +7,7 @@ use lib.ListN.{length, take, drop, getD, length-append}
 use lib.Seq.{take-at, drop-at, take-add, drop-drop, drop-cons, length-take-le}
 use Rattle.collect.specs.declared.Collection.{Collection}
 use Rattle.machine.specs.declared.Run.{Run}
-use Rattle.image.specs.Layout.{placeBytes, runBytes, frontBytes, imageOf, collectionOf, runOf, recordOf, runIn, frontIn}
+use Rattle.image.specs.Layout.{placeBytes, runBytes, frontBytes, imageOf, collectionOf, runOf, recordOf, runIn, placesIn, frontIn}
 
 -- the parts of the record that an image is
 pub record-last : (b : List ℕ) → recordOf b .last ≡ getD b 0 0
@@ -48,13 +48,13 @@ front-over b last c r e =
     ap (λ (l : List ℕ). frontBytes last c ++ l) (drop-at (take 93 b) (runBytes r) 93 (length-take-le 93 b within))
 
 -- places and settings laid over an image that has the body: its run laid over it
-pub places-over : (b : List ℕ) → length b ≡ 186 → take 177 b ++ placeBytes (runOf b) ≡ runIn (runOf b) b
+pub places-over : (b : List ℕ) → length b ≡ 186 → placesIn (runOf b) b ≡ runIn (runOf b) b
 places-over b e =
     ap (λ (l : List ℕ). l ++ placeBytes (runOf b)) (take-add 93 84 b) ∙ append-assoc (take 93 b) (take 84 (drop 93 b)) (placeBytes (runOf b))
 
 -- a body laid over an image, and its places and settings behind it: that run laid over it
 pub body-places : (b body : List ℕ) (r : Run) → length b ≡ 186 → length body ≡ 84 → body ≡ r .body
-    → take 177 (take 93 b ++ (body ++ drop 177 b)) ++ placeBytes r ≡ runIn r b
+    → placesIn r (take 93 b ++ (body ++ drop 177 b)) ≡ runIn r b
 body-places b body r e size same =
     let within : 93 ≤ length b = omega arith in
     let front : length (take 93 b) ≡ 93 = length-take-le 93 b within in

@@ -62,6 +62,10 @@ recordOf b = record { last = getD b 0 0; collection = collectionOf b; run = runO
 abbrev pub runIn : Run → List ℕ → List ℕ
 runIn r b = take 93 b ++ runBytes r
 
+-- an image with what a run has beside its body laid over its own
+abbrev pub placesIn : Run → List ℕ → List ℕ
+placesIn r b = take 177 b ++ placeBytes r
+
 -- an image with a last ID and a collection laid over its own, all else as it was
 abbrev pub frontIn : ℕ → Collection → List ℕ → List ℕ
 frontIn last c b = frontBytes last c ++ drop 93 b

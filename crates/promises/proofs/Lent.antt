@@ -13,9 +13,18 @@ use Rattle.repeater.proofs.shows.Reads as repeater-shows-reads
 use Rattle.image.proofs.record_of as image-record-of
 use Rattle.image.proofs.record_of.Kinds as image-record-of-kinds
 use Rattle.image.proofs.record_of.Reads as image-record-of-reads
-use Rattle.image.proofs.image_of as image-image-of
-use Rattle.image.proofs.image_of.Kinds as image-image-of-kinds
-use Rattle.image.proofs.image_of.Reads as image-image-of-reads
+use Rattle.image.proofs.run_of as image-run-of
+use Rattle.image.proofs.run_of.Kinds as image-run-of-kinds
+use Rattle.image.proofs.run_of.Reads as image-run-of-reads
+use Rattle.image.proofs.collection_of as image-collection-of
+use Rattle.image.proofs.collection_of.Kinds as image-collection-of-kinds
+use Rattle.image.proofs.collection_of.Reads as image-collection-of-reads
+use Rattle.image.proofs.front_bytes as image-front-bytes
+use Rattle.image.proofs.front_bytes.Kinds as image-front-bytes-kinds
+use Rattle.image.proofs.front_bytes.Reads as image-front-bytes-reads
+use Rattle.image.proofs.place_bytes as image-place-bytes
+use Rattle.image.proofs.place_bytes.Kinds as image-place-bytes-kinds
+use Rattle.image.proofs.place_bytes.Reads as image-place-bytes-reads
 use Rattle.words.proofs.tell_written as words-tell-written
 use Rattle.words.proofs.tell_written.Kinds as words-tell-written-kinds
 use Rattle.words.proofs.tell_written.Reads as words-tell-written-reads
@@ -99,10 +108,21 @@ pub one-image-record-of : (κs : Lifetimes.Lfts 0) (a : World.ArgsD image-record
     → r ≡ r′
 one-image-record-of κs a r r′ s s′ h h′ = one h h′
 
-pub one-image-image-of : (κs : Lifetimes.Lfts 0) (a : World.ArgsD image-image-of.signature κs) (r r′ : World.ResD image-image-of.signature κs)
-    (s s′ : Clauses.AtExit (K.endedOf 0 image-image-of-kinds.ps image-image-of-kinds.r) κs) → image-image-of-reads.Post κs a r s → image-image-of-reads.Post κs a r′ s′
-    → r ≡ r′
-one-image-image-of κs a r r′ s s′ h h′ = one h h′
+pub one-image-run-of : (κs : Lifetimes.Lfts 0) (a : World.ArgsD image-run-of.signature κs) (r r′ : World.ResD image-run-of.signature κs)
+    (s s′ : Clauses.AtExit (K.endedOf 0 image-run-of-kinds.ps image-run-of-kinds.r) κs) → image-run-of-reads.Post κs a r s → image-run-of-reads.Post κs a r′ s′ → r ≡ r′
+one-image-run-of κs a r r′ s s′ h h′ = one h h′
+
+pub one-image-collection-of : (κs : Lifetimes.Lfts 0) (a : World.ArgsD image-collection-of.signature κs) (r r′ : World.ResD image-collection-of.signature κs)
+    (s s′ : Clauses.AtExit (K.endedOf 0 image-collection-of-kinds.ps image-collection-of-kinds.r) κs) → image-collection-of-reads.Post κs a r s → image-collection-of-reads.Post κs a r′ s′ → r ≡ r′
+one-image-collection-of κs a r r′ s s′ h h′ = one h h′
+
+pub one-image-front-bytes : (κs : Lifetimes.Lfts 0) (a : World.ArgsD image-front-bytes.signature κs) (r r′ : World.ResD image-front-bytes.signature κs)
+    (s s′ : Clauses.AtExit (K.endedOf 0 image-front-bytes-kinds.ps image-front-bytes-kinds.r) κs) → image-front-bytes-reads.Post κs a r s → image-front-bytes-reads.Post κs a r′ s′ → r ≡ r′
+one-image-front-bytes κs a r r′ s s′ h h′ = one h h′
+
+pub one-image-place-bytes : (κs : Lifetimes.Lfts 0) (a : World.ArgsD image-place-bytes.signature κs) (r r′ : World.ResD image-place-bytes.signature κs)
+    (s s′ : Clauses.AtExit (K.endedOf 0 image-place-bytes-kinds.ps image-place-bytes-kinds.r) κs) → image-place-bytes-reads.Post κs a r s → image-place-bytes-reads.Post κs a r′ s′ → r ≡ r′
+one-image-place-bytes κs a r r′ s s′ h h′ = one h h′
 
 pub one-words-tell-written : (κs : Lifetimes.Lfts 0) (a : World.ArgsD words-tell-written.signature κs) (r r′ : World.ResD words-tell-written.signature κs)
     (s s′ : Clauses.AtExit (K.endedOf 0 words-tell-written-kinds.ps words-tell-written-kinds.r) κs) → words-tell-written-reads.Post κs a r s → words-tell-written-reads.Post κs a r′ s′

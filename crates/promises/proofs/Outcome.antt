@@ -165,6 +165,18 @@ use Rattle.sign.proofs.Sign.copy_body.Reads as sign-Sign-copy-body-reads
 use Rattle.collect.proofs.same as collect-same
 use Rattle.collect.proofs.same.Kinds as collect-same-kinds
 use Rattle.collect.proofs.same.Reads as collect-same-reads
+use Rattle.hear.proofs.framed as hear-framed
+use Rattle.hear.proofs.framed.Kinds as hear-framed-kinds
+use Rattle.hear.proofs.framed.Reads as hear-framed-reads
+use Rattle.hear.proofs.hear as hear-hear
+use Rattle.hear.proofs.hear.Kinds as hear-hear-kinds
+use Rattle.hear.proofs.hear.Reads as hear-hear-reads
+use Rattle.sign.proofs.start as sign-start
+use Rattle.sign.proofs.start.Kinds as sign-start-kinds
+use Rattle.sign.proofs.start.Reads as sign-start-reads
+use Rattle.sign.proofs.fresh as sign-fresh
+use Rattle.sign.proofs.fresh.Kinds as sign-fresh-kinds
+use Rattle.sign.proofs.fresh.Reads as sign-fresh-reads
 use Rattle.collect.proofs.begun as collect-begun
 use Rattle.collect.proofs.begun.Kinds as collect-begun-kinds
 use Rattle.collect.proofs.begun.Reads as collect-begun-reads
@@ -403,6 +415,22 @@ one-sign-Sign-copy-body κs a r r′ s s′ h h′ = (one (h .answered) (h′ .a
 pub one-collect-same : (κs : Lifetimes.Lfts 2) (a : World.ArgsD collect-same.signature κs) (r r′ : World.ResD collect-same.signature κs)
     (s s′ : Clauses.AtExit (K.endedOf 2 collect-same-kinds.ps collect-same-kinds.r) κs) → collect-same-reads.Post κs a r s → collect-same-reads.Post κs a r′ s′ → r ≡ r′
 one-collect-same κs a r r′ s s′ h h′ = one h h′
+
+pub one-hear-framed : (κs : Lifetimes.Lfts 0) (a : World.ArgsD hear-framed.signature κs) (r r′ : World.ResD hear-framed.signature κs)
+    (s s′ : Clauses.AtExit (K.endedOf 0 hear-framed-kinds.ps hear-framed-kinds.r) κs) → hear-framed-reads.Post κs a r s → hear-framed-reads.Post κs a r′ s′ → r ≡ r′
+one-hear-framed κs a r r′ s s′ h h′ = one h h′
+
+pub one-hear-hear : (κs : Lifetimes.Lfts 1) (a : World.ArgsD hear-hear.signature κs) (r r′ : World.ResD hear-hear.signature κs)
+    (s s′ : Clauses.AtExit (K.endedOf 1 hear-hear-kinds.ps hear-hear-kinds.r) κs) → hear-hear-reads.Post κs a r s → hear-hear-reads.Post κs a r′ s′ → r ≡ r′
+one-hear-hear κs a r r′ s s′ h h′ = one h h′
+
+pub one-sign-start : (κs : Lifetimes.Lfts 0) (a : World.ArgsD sign-start.signature κs) (r r′ : World.ResD sign-start.signature κs)
+    (s s′ : Clauses.AtExit (K.endedOf 0 sign-start-kinds.ps sign-start-kinds.r) κs) → sign-start-reads.Post κs a r s → sign-start-reads.Post κs a r′ s′ → r ≡ r′
+one-sign-start κs a r r′ s s′ h h′ = one h h′
+
+pub one-sign-fresh : (κs : Lifetimes.Lfts 0) (a : World.ArgsD sign-fresh.signature κs) (r r′ : World.ResD sign-fresh.signature κs)
+    (s s′ : Clauses.AtExit (K.endedOf 0 sign-fresh-kinds.ps sign-fresh-kinds.r) κs) → sign-fresh-reads.Post κs a r s → sign-fresh-reads.Post κs a r′ s′ → r ≡ r′
+one-sign-fresh κs a r r′ s s′ h h′ = one h h′
 
 pub one-collect-begun : (κs : Lifetimes.Lfts 0) (a : World.ArgsD collect-begun.signature κs) (r r′ : World.ResD collect-begun.signature κs)
     (s s′ : Clauses.AtExit (K.endedOf 0 collect-begun-kinds.ps collect-begun-kinds.r) κs) → collect-begun-reads.Post κs a r s → collect-begun-reads.Post κs a r′ s′ → r ≡ r′

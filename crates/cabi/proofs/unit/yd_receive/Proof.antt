@@ -1,14 +1,20 @@
--- `yd_receive` lays the answer and the next image; a refusal leaves both.
-use mathlib.Core.List.{[]}
-use mathlib.Core.Path.{refl, _∙_}
-use Rattle.basis.specs.Bytes.{laid}
-use Rattle.sign.specs.Receive.{receiveOf, numberOf}
-use Rattle.hear.specs.declared.Outcome.the-variants.{Refused}
-use Rattle.image.specs.Layout.{imageOf, recordOf}
-use Rattle.words.specs.Told.{toldIn}
-use Rattle.cabi.specs.Calls.{keptOf}
-use Rattle.cabi.proofs.Lays.{unsized, short, bytesOf, receive-answers, not-refused}
+-- `yd_receive` lays what is heard beside the run of the image; a refusal leaves image and answer.
+use mathlib.Core.Path.{_≡_, refl, sym, subst, _∙_}
+use lib.ListN.{length, getD}
+use borrow.Author.Tests.{not-true, not-false}
 use borrow.Author.Needs.{needs}
+use Rattle.basis.specs.Bytes.{laid}
+use Rattle.hear.specs.Join.{Sure}
+use Rattle.hear.specs.declared.Outcome.the-variants.{Refused}
+use Rattle.hear.proofs.Hears.{released-whole}
+use Rattle.sign.specs.Join.{staysOf}
+use Rattle.sign.specs.Receive.{behindOf, receiveOf, numberOf}
+use Rattle.sign.proofs.Joining.{received-is, unsound-run}
+use Rattle.image.specs.Layout.{imageOf, recordOf}
+use Rattle.cabi.specs.Calls.{keptOf}
+use Rattle.cabi.proofs.Lays.{bytesOf, receive-answers, unsized, short}
+use Rattle.cabi.proofs.Parts.{heard-parts, run-part, run-here}
+use Rattle.cabi.proofs.Receives.{behind-outcome}
 use Rattle.cabi.proofs.unit.yd_receive.Statement.{statement}
 use Rattle.cabi.proofs.unit.yd_receive.Tie as tie
 
@@ -16,7 +22,7 @@ returns : tie.Need-returns
 returns c =
     let a = c .before .before .before .before .args in
     let y = receiveOf (recordOf (a .image .now)) (a .mid) (a .bytes .now) in
-    unsized 100 (numberOf (y .outcome)) (a .image .now) (a .answer .now) (keptOf (y .outcome) (imageOf (y .sign)) (a .image .now)) (keptOf (y .outcome) (laid (bytesOf y) (a .answer .now)) (a .answer .now)) (c .if1 .taken)
+    unsized 100 (numberOf (y .outcome)) (a .image .now) (a .answer .now) (keptOf (y .outcome) (imageOf (y .sign)) (a .image .now)) (keptOf (y .outcome) (laid (bytesOf y) (a .answer .now)) (a .answer .now)) (search needs)
 
 returns-2 : tie.Need-returns-2
 returns-2 c =
@@ -24,32 +30,45 @@ returns-2 c =
     let y = receiveOf (recordOf (a .image .now)) (a .mid) (a .bytes .now) in
     short 100 (numberOf (y .outcome)) (a .image .now) (a .answer .now) (keptOf (y .outcome) (imageOf (y .sign)) (a .image .now)) (keptOf (y .outcome) (laid (bytesOf y) (a .answer .now)) (a .answer .now)) (search needs) (search needs)
 
-load-requires : tie.Need-load-requires
-load-requires c κs = search needs
+lent-requires : tie.Need-lent-requires
+lent-requires c κs = search needs
 
-receive-requires : tie.Need-receive-requires
-receive-requires c κs = search needs
+run-of-requires : tie.Need-run-of-requires
+run-of-requires c κs = search needs
 
-enum-known-outcome : tie.Need-enum-known-outcome
-enum-known-outcome c = search needs
+collection-of-requires : tie.Need-collection-of-requires
+collection-of-requires c κs = search needs
 
-cast-result : tie.Need-cast-result
-cast-result c = search needs
+sound-requires : tie.Need-sound-requires
+sound-requires c κs = search needs
 
 same-length : tie.Need-same-length
 same-length c = search needs
 
 returns-3 : tie.Need-returns-3
+unfolding staysOf
 returns-3 c =
-    let a = c .before .before .before .before .before .before .before .before .before .before .before .before .before .args in
-    let g = c .before .outcome .given in
-    receive-answers (a .image .now) (a .answer .now) (a .mid) (a .bytes .now) (c .before .before .before .before .before .before .load .result) (c .before .before .before .before .before .receive .result) (Refused (g .0 .0)) (search needs) (search needs) (c .before .before .before .before .before .before .load .ensures) (c .before .before .before .before .before .receive .ensures) (g .1) refl refl
+    let a = c .before .before .before .before .before .before .before .before .before .before .before .args in
+    let s = recordOf (a .image .now) in
+    let big : length (a .image .now) ≡ 186 = search needs in
+    let no = unsound-run s (a .mid) (a .bytes .now) (sym (run-part (a .image .now) (c .before .before .before .before .lent .result) (c .before .before .before .run-of .result) (c .before .before .collection-of .result) big (c .before .before .before .before .lent .ensures) (c .before .before .before .run-of .ensures) (c .before .before .collection-of .ensures) _ (c .before .sound .ensures)) ∙ not-true _ (c .if3 .taken)) in
+    receive-answers (a .image .now) (a .answer .now) (a .mid) (a .bytes .now) s (staysOf s (Refused 16)) (Refused 16) big (search needs) refl (sym no) refl refl refl
 
-lay-received-requires : tie.Need-lay-received-requires
-lay-received-requires c κs = search needs
+array-read-hear : tie.Need-array-read-hear
+array-read-hear c = search needs
 
-store-requires : tie.Need-store-requires
-store-requires c κs = search needs
+hear-requires : tie.Need-hear-requires
+hear-requires c κs = search needs
+
+lay-heard-requires : tie.Need-lay-heard-requires
+lay-heard-requires c κs =
+    let a = c .before .before .before .before .before .before .before .before .before .before .before .before .before .before .args in
+    let big : length (a .image .now) ≡ 186 = search needs in
+    let k = c .before .before .before .before .before .collection-of .result in
+    let l : length (k .lens) ≡ 6 = search (needs, c .before .before .before .before .before .collection-of .ok) in
+    let r : length (k .room) ≡ 84 = search (needs, c .before .before .before .before .before .collection-of .ok) in
+    let sure = subst Sure (sym (c .before .before .hear .ensures)) (released-whole (getD (c .before .before .before .before .before .before .before .lent .result) 0 0) k (c .before .before .before .before .before .before .run-of .result .len) (a .mid) (a .bytes .now) l r) in
+    (big, (run-here (a .image .now) (c .before .before .before .before .before .before .before .lent .result) (c .before .before .before .before .before .before .run-of .result) (c .before .before .before .before .before .collection-of .result) big (c .before .before .before .before .before .before .before .lent .ensures) (c .before .before .before .before .before .before .run-of .ensures) (c .before .before .before .before .before .collection-of .ensures), sure))
 
 same-length-2 : tie.Need-same-length-2
 same-length-2 c = search needs
@@ -59,13 +78,21 @@ same-length-3 c = search needs
 
 returns-4 : tie.Need-returns-4
 returns-4 c =
-    let a = c .before .before .before .before .before .before .before .before .before .before .before .before .before .before .before .before .before .before .before .before .args in
-    let x = c .before .before .before .before .before .before .before .before .before .before .before .before .receive .result in
-    let n = not-refused (x .outcome) (c .before .before .before .before .before .before .before .before .before .match .keys2) in
-    let t = receive-answers (a .image .now) (a .answer .now) (a .mid) (a .bytes .now) (c .before .before .before .before .before .before .before .before .before .before .before .before .before .load .result) x (x .outcome) (search needs) (search needs) (c .before .before .before .before .before .before .before .before .before .before .before .before .before .load .ensures) (c .before .before .before .before .before .before .before .before .before .before .before .before .receive .ensures) refl
-    (c .before .before .store .ensures ∙ n (imageOf (x .sign)) (a .image .now) .1)
-    (c .before .before .before .before .before .before .lay-received .ensures ∙ n (toldIn 100 (bytesOf x) (a .answer .now)) (a .answer .now) .1) in
-    (n [] [] .0 ∙ t .0, t .1)
+    let a = c .before .before .before .before .before .before .before .before .before .before .before .before .before .before .before .before .before .before .before .args in
+    let big : length (a .image .now) ≡ 186 = search needs in
+    let s = recordOf (a .image .now) in
+    let h = c .before .before .before .before .before .before .before .hear .result in
+    let k = c .before .before .before .before .before .before .before .before .before .before .collection-of .result in
+    let l : length (k .lens) ≡ 6 = search (needs, c .before .before .before .before .before .before .before .before .before .before .collection-of .ok) in
+    let r : length (k .room) ≡ 84 = search (needs, c .before .before .before .before .before .before .before .before .before .before .collection-of .ok) in
+    let sure = subst Sure (sym (c .before .before .before .before .before .before .before .hear .ensures)) (released-whole (getD (c .before .before .before .before .before .before .before .before .before .before .before .before .lent .result) 0 0) k (c .before .before .before .before .before .before .before .before .before .before .before .run-of .result .len) (a .mid) (a .bytes .now) l r) in
+    let x = behindOf s (h .collection) (h .outcome) in
+    let sound = sym (run-part (a .image .now) (c .before .before .before .before .before .before .before .before .before .before .before .before .lent .result) (c .before .before .before .before .before .before .before .before .before .before .before .run-of .result) (c .before .before .before .before .before .before .before .before .before .before .collection-of .result) big (c .before .before .before .before .before .before .before .before .before .before .before .before .lent .ensures) (c .before .before .before .before .before .before .before .before .before .before .before .run-of .ensures) (c .before .before .before .before .before .before .before .before .before .before .collection-of .ensures) _ (c .before .before .before .before .before .before .before .before .before .sound .ensures)) ∙ not-false _ (c .before .before .before .before .before .before .before .before .if3 .left) in
+    let heard = heard-parts (a .image .now) (c .before .before .before .before .before .before .before .before .before .before .before .before .lent .result) (c .before .before .before .before .before .before .before .before .before .before .before .run-of .result) (c .before .before .before .before .before .before .before .before .before .before .collection-of .result) big (c .before .before .before .before .before .before .before .before .before .before .before .before .lent .ensures) (c .before .before .before .before .before .before .before .before .before .before .before .run-of .ensures) (c .before .before .before .before .before .before .before .before .before .before .collection-of .ensures) (a .mid) (a .bytes .now) h (c .before .before .before .before .before .before .before .hear .ensures) in
+    let t = receive-answers (a .image .now) (a .answer .now) (a .mid) (a .bytes .now) s x (h .outcome) big (search needs) refl (received-is s (a .mid) (a .bytes .now) h x sound heard refl) (behind-outcome s h sure)
+    (c .before .before .before .before .lay-heard .ensures .1 .0)
+    (c .before .before .before .before .lay-heard .ensures .1 .1) in
+    (c .before .before .before .before .lay-heard .ensures .0 ∙ t .0, t .1)
 
 pub yd-receive-spec : {M : Type 1} → statement M
 yd-receive-spec =
@@ -73,14 +100,15 @@ yd-receive-spec =
     (tie.spec
     returns
     returns-2
-    load-requires
-    receive-requires
-    enum-known-outcome
-    cast-result
+    lent-requires
+    run-of-requires
+    collection-of-requires
+    sound-requires
     same-length
     returns-3
-    lay-received-requires
-    store-requires
+    array-read-hear
+    hear-requires
+    lay-heard-requires
     same-length-2
     same-length-3
     returns-4)

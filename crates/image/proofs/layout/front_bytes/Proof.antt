@@ -1,10 +1,10 @@
 -- `front_bytes` stores the single bytes and copies the two arrays, the last before the first.
 use borrow.Author.Needs.{needs}
 use native.Mathlib.Omega.{arith}
-use lib.ListN.{length, replicate}
+use lib.ListN.{length}
+use mathlib.Core.List.{append-nil}
 use mathlib.Core.Path.{_≡_}
 use Rattle.image.proofs.Copies.{filled}
-use mathlib.Core.List.{append-nil}
 use Rattle.image.proofs.layout.front_bytes.Statement.{statement}
 use Rattle.image.proofs.layout.front_bytes.Tie as tie
 
@@ -57,8 +57,8 @@ returns c =
     let lens : length (a .lens) ≡ 6 = search needs in
     let room : length (a .room) ≡ 84 = search needs in
     rw (
-      filled (a .lens) (replicate 6 0) _ lens (c .before .copy2 .ensures .1),
-      filled (a .room) (replicate 84 0) _ room (c .before .before .before .before .before .copy .ensures .1),
+      filled (a .lens) _ _ lens (c .before .copy2 .ensures .1),
+      filled (a .room) _ _ room (c .before .before .before .before .before .copy .ensures .1),
       append-nil (a .room),
     )
 

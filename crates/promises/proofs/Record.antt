@@ -11,15 +11,15 @@ use Rattle.reader.specs.Read.{readOf}
 use Rattle.reader.specs.declared.read.Reading.the-variants.{Reset as ResetRead, Refused as Unread}
 use Rattle.collect.specs.Slots.{begunOf, noneOf}
 use Rattle.machine.specs.Step.{readyOf, startedOf}
-use Rattle.sign.specs.Delivery.{Awaits, Delivered, afterPackets, answerTo}
+use Rattle.service.specs.Delivery.{Awaits, Delivered, afterPackets, answerTo}
 use Rattle.sign.specs.Join.{staysOf}
 use Rattle.sign.specs.Receive.{receiveOf}
 use Rattle.sign.specs.Reset.{freshOf, powerOn, startSettings}
 use Rattle.sign.specs.declared.Sign.{Sign}
 use Rattle.sign.specs.declared.Received.{Received}
-use Rattle.sign.proofs.Keeps.{Good, power-good, receive-good, step-good, cleared-good}
-use Rattle.sign.proofs.Driver.{receive-still, step-still, reset-still, busy-stays}
-use Rattle.sign.proofs.Deliveries.{delivers}
+use Rattle.service.proofs.Keeps.{Good, power-good, receive-good, step-good, cleared-good}
+use Rattle.service.proofs.Driver.{receive-still, step-still, reset-still, busy-stays}
+use Rattle.service.proofs.Deliveries.{delivers}
 use Rattle.promises.specs.Bench.{hi}
 use Rattle.promises.specs.Record.{Calls, NoTrip, Gets, Delivers, LetsRun, cutOf, behind, told, ours, fixed, startingOver, shaken}
 

@@ -15,8 +15,8 @@ use Rattle.judge.specs.Grammar.{acceptedAs}
 use Rattle.judge.specs.declared.Verdict.the-variants.{Refused as NoProgram}
 use Rattle.machine.specs.Step.{startedOf}
 use Rattle.machine.specs.declared.Answer.the-variants.{Refused as Stopped}
-use Rattle.sign.specs.Delivery.{Awaits}
-use Rattle.sign.specs.Driver.{movesOf}
+use Rattle.service.specs.Delivery.{Awaits}
+use Rattle.service.specs.Driver.{movesOf}
 use Rattle.sign.specs.Join.{staysOf}
 use Rattle.sign.specs.Receive.{receiveOf}
 use Rattle.sign.specs.Reset.{powerOn, resetOf, clearedOf}
@@ -26,7 +26,7 @@ use Rattle.sign.specs.declared.Received.{Received}
 use Rattle.sign.specs.declared.Stepped.{Stepped}
 use Rattle.sign.specs.declared.Cleared.{Cleared}
 use Rattle.hear.specs.declared.Outcome.the-variants.{Reset, Stored, Released, Refused}
-use Rattle.sign.proofs.Keeps.{Good}
+use Rattle.service.proofs.Keeps.{Good}
 
 -- what an implementation is: its first record, and what it does with one
 pub record Calls : Type 0 where

@@ -1,9 +1,4 @@
-pub mod Deliveries
-pub mod Driver
 pub mod Joining
-pub mod Keeps
-pub mod Only
-pub mod Punctual
 pub mod Releases
 pub mod Sounds
 pub mod Stepping

@@ -1,6 +1,3 @@
-pub mod Delivery
-pub mod Driver
-pub mod Punctual
 pub mod Join
 pub mod Receive
 pub mod Reset

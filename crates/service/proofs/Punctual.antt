@@ -13,14 +13,14 @@ use Rattle.machine.specs.declared.Answer.{Answer}
 use Rattle.machine.specs.declared.Run.{Run}
 use Rattle.reckon.proofs.Demand.{forecast-holds}
 use Rattle.machine.proofs.Lines.{BusyRun, line-ends}
-use Rattle.sign.specs.Driver.{Event, afterEvents, saidEvents, afterSteps, saidSteps, stepsIn, Undisturbed}
-use Rattle.sign.specs.Punctual.{OnTime}
+use Rattle.service.specs.Driver.{Event, afterEvents, saidEvents, afterSteps, saidSteps, stepsIn, Undisturbed}
+use Rattle.service.specs.Punctual.{OnTime}
 use Rattle.sign.specs.Step.{stepOf}
 use Rattle.sign.specs.declared.Sign.{Sign}
 use Rattle.sign.specs.declared.Stepped.{Stepped}
-use Rattle.sign.proofs.Driver.{driver-after, driver-said}
-use Rattle.sign.proofs.Keeps.{Good, step-good}
+use Rattle.service.proofs.Driver.{driver-after, driver-said}
+use Rattle.service.proofs.Keeps.{Good, step-good}
 use Rattle.sign.proofs.Stepping.{sound-steps}
 
 -- the steps of a sound record are its run's
 steps-run : (n : ℕ) (s : Sign) → Good s → afterSteps n s .run ≡ afterRun n (s .run)

@@ -21,24 +21,24 @@ use Rattle.machine.specs.Step.{framesOf, sayOf, stepOf as runStep}
 use Rattle.machine.specs.Sound.{bodyOf, soundOf as runSound}
 use Rattle.machine.specs.declared.Answer.{Answer}
 use Rattle.machine.specs.declared.Answer.the-variants.{Did, Idle, Refused as Stopped}
 use Rattle.sign.specs.Sound.{soundOf}
 use Rattle.sign.specs.Reset.{resetOf, clearedOf}
 use Rattle.hear.specs.Join.{slotOf}
 use Rattle.sign.specs.Join.{staysOf, storesOf, releaseOf, releasedOf, countedOf, placedOf, goesOn, joinOf}
 use Rattle.sign.specs.Receive.{heardOf, receiveOf}
 use Rattle.sign.specs.Step.{stepOf}
-use Rattle.sign.specs.Driver.{movesOf, Event, step, bytes, afterEvents, saidEvents, afterSteps, saidSteps, stepsIn, Undisturbed}
+use Rattle.service.specs.Driver.{movesOf, Event, step, bytes, afterEvents, saidEvents, afterSteps, saidSteps, stepsIn, Undisturbed}
 use Rattle.sign.specs.declared.Sign.{Sign}
 use Rattle.sign.specs.declared.Received.{Received}
 use Rattle.sign.specs.declared.Cleared.{Cleared}
 use Rattle.sign.specs.declared.Stepped.{Stepped}
 use Rattle.hear.specs.declared.Outcome.{Outcome}
 use Rattle.hear.specs.declared.Outcome.the-variants.{Query, Reset, Repeat, Stored, Released, Refused}
 use Rattle.machine.specs.declared.Stepped.{Stepped as RunStepped}
 use Rattle.machine.proofs.Keeps.{step-ready, step-busy}
 use Rattle.sign.proofs.Joining.{sound-receives, unsound-receives}
 use Rattle.sign.proofs.Sounds.{sound-parts}
 use Rattle.sign.proofs.Stepping.{sound-steps, unsound-steps}
 
 -- where the outcome doesn't move, the record is the one before
 abbrev Still : Sign → Received → Type 0

@@ -16,9 +16,9 @@ use Rattle.machine.specs.Sound.{bodyOf, soundOf as runSound}
 use Rattle.machine.specs.declared.Loop.{Loop}
 use Rattle.machine.specs.declared.Run.{Run}
 use Rattle.machine.proofs.Sounds.{sound-parts as run-parts}
 use Rattle.sign.specs.declared.Sign.{Sign}
 use Rattle.sign.proofs.Sounds.{sound-parts}
-use Rattle.sign.proofs.Keeps.{Good}
+use Rattle.service.proofs.Keeps.{Good}
 
 -- the room of a sound run is its body and zeros
 body-is : (r : Run) → runSound r ≡ true → length (r .body) ≡ 84 → (length (bodyOf r) ≡ r .len) × (r .body ≡ bodyOf r ++ blank (84 - r .len))

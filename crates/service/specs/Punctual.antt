@@ -10,8 +10,8 @@ use Rattle.reckon.specs.Forecast.{forecastOf}
 use Rattle.totals.specs.Totals.{totalsOf}
 use Rattle.reckon.specs.declared.reckon.Foretold.the-variants.{Ends}
 use Rattle.machine.specs.Line.{lineOf, performed}
-use Rattle.sign.specs.Driver.{Event, afterEvents, saidEvents, stepsIn}
+use Rattle.service.specs.Driver.{Event, afterEvents, saidEvents, stepsIn}
 use Rattle.sign.specs.declared.Sign.{Sign}
 
 -- the steps among the events are those of the forecast: Busy before the last, Ready behind it, and the line's own answers
 pub record OnTime (mid : ℕ) (es : List Event) (s : Sign) (b : List ℕ) (σ : Settings) : Type 0 where

@@ -27,17 +27,17 @@ use Rattle.collect.specs.declared.Collection.{Collection}
 use Rattle.collect.proofs.Joined.{blank}
 use Rattle.collect.proofs.Kept.{held-more}
 use Rattle.collect.proofs.Sounds.{begun-slots}
 use Rattle.sign.specs.Sound.{soundOf}
 use Rattle.hear.specs.Join.{slotOf, beginsOf, Right, Open, Whole}
 use Rattle.sign.specs.Join.{staysOf, startsOf, storesOf, releaseOf, releasedOf, countedOf, placedOf, goesOn, joinOf}
 use Rattle.sign.specs.Receive.{heardOf, receiveOf}
-use Rattle.sign.specs.Delivery.{afterPackets, answerTo, Awaits, Delivered}
+use Rattle.service.specs.Delivery.{afterPackets, answerTo, Awaits, Delivered}
 use Rattle.sign.specs.declared.Sign.{Sign}
 use Rattle.sign.specs.declared.Received.{Received}
 use Rattle.hear.specs.declared.Outcome.the-variants.{Repeat, Stored, Refused}
 use Rattle.hear.proofs.Places.{stored-slots, whole-size, whole-body}
 use Rattle.sign.proofs.Joining.{sound-receives}
-use Rattle.sign.proofs.Keeps.{Roomy, Good, receive-good}
+use Rattle.service.proofs.Keeps.{Roomy, Good, receive-good}
 
 -- the collection behind the first packets of a body
 abbrev upTo : ℕ → List ℕ → ℕ → Collection

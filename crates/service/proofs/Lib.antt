@@ -1,0 +1,5 @@
+pub mod Deliveries
+pub mod Driver
+pub mod Keeps
+pub mod Only
+pub mod Punctual

@@ -1,8 +1,10 @@
 -- What was heard of bytes, laid into an image and an answer.
 use Prim.Native.Nat.{ℕ}
-use mathlib.Core.List.{List}
+use mathlib.Core.List.{List, [], _∷_}
 use mathlib.Core.Path.{_≡_, refl, sym, ap, _∙_}
 use lib.ListN.{length, getD, replicate}
+use types.Run.{OneOf, miss}
+use denote.Enum.Declared.{tagOf}
 use Rattle.judge.specs.declared.Verdict.{Verdict}
 use Rattle.collect.specs.Slots.{joinedOf, noneOf}
 use Rattle.collect.specs.declared.Collection.{Collection}
@@ -11,6 +13,7 @@ use Rattle.hear.specs.Join.{Sure}
 use Rattle.hear.specs.declared.Heard.{Heard}
 use Rattle.hear.specs.declared.Outcome.{Outcome}
 use Rattle.hear.specs.declared.Outcome.the-variants.{Query, Reset, Repeat, Stored, Released, Refused}
+use Rattle.hear.proofs.Outcome.{the-type}
 use Rattle.hear.proofs.Places.{whole-room}
 use Rattle.sign.specs.Join.{staysOf, startsOf, startOf, releaseOf}
 use Rattle.sign.specs.Receive.{behindOf, numberOf}
@@ -84,6 +87,16 @@ module _ (h : Heard) (image answer : List ℕ) where
   -- it is refused
   pub no-laid : (n : ℕ) → h .outcome ≡ Refused n → Laid n image answer
   no-laid n eo = laid-as (Refused n) (behindOf (recordOf image) (h .collection) (Refused n)) eo refl refl refl
+
+-- a query and a repeat change nothing
+pub quiet : (s : Sign) (c : Collection) (o : Outcome) → OneOf (0 ∷ 2 ∷ []) (tagOf the-type o)
+    → (0 ≡ numberOf o) × ((behindOf s c o ≡ staysOf s o) × ((a b : List ℕ) → a ≡ keptOf o a b))
+quiet s c Query h = (refl, (refl, λ a b. refl))
+quiet s c Reset h = absurd (miss (0 ∷ 2 ∷ []) 1 tt h)
+quiet s c Repeat h = (refl, (refl, λ a b. refl))
+quiet s c Stored h = absurd (miss (0 ∷ 2 ∷ []) 3 tt h)
+quiet s c (Released v) h = absurd (miss (0 ∷ 2 ∷ []) 4 tt h)
+quiet s c (Refused n) h = absurd (miss (0 ∷ 2 ∷ []) 5 tt h)
 
 -- the record behind what was heard has its outcome
 pub behind-outcome : (s : Sign) (h : Heard) → Sure h → behindOf s (h .collection) (h .outcome) .outcome ≡ h .outcome

@@ -72,21 +72,11 @@ pub(crate) fn lay_heard(heard: Heard, run: Run, image: &mut [u8], answer: &mut [
     let outcome = heard.outcome;
     let collection = heard.collection;
     match outcome {
-        Outcome::Query => {
-            lay_plain(outcome, answer);
-            lay_places(run, image);
-            0
-        }
         Outcome::Reset => {
             let settings = run.settings;
             let next = fresh(settings.dim, settings.bright);
             lay_plain(outcome, answer);
             store(next, image);
-            0
-        }
-        Outcome::Repeat => {
-            lay_plain(outcome, answer);
-            lay_places(run, image);
             0
         }
         Outcome::Stored => {
@@ -102,5 +92,11 @@ pub(crate) fn lay_heard(heard: Heard, run: Run, image: &mut [u8], answer: &mut [
             0
         }
         Outcome::Refused(n) => n as u32,
+        // A query or a repeat, which change nothing.
+        _ => {
+            lay_plain(outcome, answer);
+            lay_places(run, image);
+            0
+        }
     }
 }

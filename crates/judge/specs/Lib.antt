@@ -3,5 +3,3 @@ pub mod Structure
 pub mod Verdict
 pub mod Flow
 pub mod Standing
-pub mod Grammar
-pub mod Reach

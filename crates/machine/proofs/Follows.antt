@@ -12,12 +12,12 @@ use Rattle.perform.specs.Settings.{soundOf as settingsSound}
 use Rattle.perform.specs.declared.settings.Settings.{Settings}
 use Rattle.judge.specs.Token.{get}
 use Rattle.judge.specs.Verdict.{judgeOf}
-use Rattle.judge.specs.Grammar.{acceptedAs}
-use Rattle.judge.specs.Reach.{Reach, start}
+use Rattle.grammar.specs.Grammar.{acceptedAs}
+use Rattle.grammar.specs.Reach.{Reach, start}
 use Rattle.judge.specs.Standing.{insideOf, standOf}
 use Rattle.judge.specs.declared.Standing.{Standing}
 use Rattle.judge.specs.declared.Standing.the-variants.{Outside}
-use Rattle.judge.proofs.Standings.{At, at-stands}
+use Rattle.grammar.proofs.Standings.{At, at-stands}
 use Rattle.course.specs.Steps.{Frame, frame, State, ready, at, Said, nextOf, saidOf, afterOf, answersOf, started, settle}
 use Rattle.course.proofs.Programs.{accepting}
 use Rattle.course.proofs.Runs.{settle-at}

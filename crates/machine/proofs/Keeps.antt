@@ -24,13 +24,13 @@ use Rattle.perform.specs.declared.settings.Settings.{Settings}
 use Rattle.judge.specs.Token.{roleOf, Act, Part, act, rep, close, forever, again, Tok, good, bad, sizeOf, partOf, actOf, tokOf, get}
 use Rattle.judge.specs.Structure.{structureOf, roleIn, opened, kept}
 use Rattle.judge.specs.Standing.{insideOf, standOf}
-use Rattle.judge.specs.Reach.{Reach, start, past}
+use Rattle.grammar.specs.Reach.{Reach, start, past}
 use Rattle.judge.specs.declared.Open.{Open}
 use Rattle.judge.specs.declared.Role.{Role}
 use Rattle.judge.specs.declared.Role.the-variants.{Plain, Repeat, Close, Forever, Again}
 use Rattle.judge.specs.declared.Standing.{Standing}
 use Rattle.judge.specs.declared.Standing.the-variants.{Nowhere, Outside, Inside}
-use Rattle.judge.proofs.Standings.{At, at-stands}
+use Rattle.grammar.proofs.Standings.{At, at-stands}
 use Rattle.judge.proofs.Tokens.{get-two, get-within}
 use Rattle.course.specs.Steps.{Frame, frame, State, ready, at, settle, setsOf, closed, returned, goesOf, wentAt, nextOf, saidOf}
 use Rattle.judge.proofs.Values.{Acts, get-loop, get-act}

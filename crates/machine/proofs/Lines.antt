@@ -11,7 +11,7 @@ use Rattle.perform.specs.declared.settings.Settings.{Settings}
 use Rattle.perform.specs.declared.price.Performed.{Performed}
 use Rattle.judge.specs.Token.{get}
 use Rattle.judge.specs.Verdict.{judgeOf}
-use Rattle.judge.specs.Grammar.{acceptedAs}
+use Rattle.grammar.specs.Grammar.{acceptedAs}
 use Rattle.judge.specs.declared.Verdict.the-variants.{Finite, Endless}
 use Rattle.course.specs.Steps.{State, ready, at, Said, did, Busy, settle, started, afterOf, answersOf}
 use Rattle.course.specs.Tree.{exitOf}

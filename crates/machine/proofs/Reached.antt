@@ -10,15 +10,15 @@ use Rattle.judge.specs.Token.{Part, act, rep, close, forever, again, Tok, good,
 use Rattle.judge.specs.Structure.{Structure, broken, kept, structureOf, roleIn, opened, moved}
 use Rattle.judge.specs.Verdict.{judge, judged, commandsOf, judgeOf}
 use Rattle.judge.specs.Standing.{insideOf, standOf}
-use Rattle.judge.specs.Grammar.{acceptedAs}
-use Rattle.judge.specs.Reach.{Reach, start, past}
+use Rattle.grammar.specs.Grammar.{acceptedAs}
+use Rattle.grammar.specs.Reach.{Reach, start, past}
 use Rattle.judge.specs.declared.Open.{Open}
 use Rattle.judge.specs.declared.Verdict.{Verdict}
 use Rattle.judge.specs.declared.Verdict.the-variants.{Finite, Endless, Refused}
 use Rattle.judge.specs.declared.Standing.{Standing}
 use Rattle.judge.specs.declared.Standing.the-variants.{Nowhere}
-use Rattle.judge.proofs.Refusals.{reach-judge}
-use Rattle.judge.proofs.Standings.{At, at-stands, stands-at}
+use Rattle.grammar.proofs.Refusals.{reach-judge}
+use Rattle.grammar.proofs.Standings.{At, at-stands, stands-at}
 use Rattle.judge.proofs.Tokens.{get-two, tokens-first}
 use Rattle.course.proofs.Accepts.{Yes}
 use Rattle.judge.proofs.Values.{get-loop}

@@ -17,7 +17,7 @@ use Rattle.program.specs.declared.Reading.the-variants.{Refused as Bad}
 use Rattle.judge.specs.Token.{good, bad, tokOf}
 use Rattle.judge.specs.declared.Standing.{Standing}
 use Rattle.judge.specs.declared.Standing.the-variants.{Nowhere, Outside, Inside}
-use Rattle.judge.proofs.Standings.{At, stands-at}
+use Rattle.grammar.proofs.Standings.{At, stands-at}
 use Rattle.judge.specs.Standing.{standOf, seenOf}
 use Rattle.perform.specs.Settings.{soundOf as settingsSound}
 use Rattle.machine.specs.Sound.{zerosOf, bodyOf, restsOf, heldOf, tidyBy, tidyOf, soundOf}

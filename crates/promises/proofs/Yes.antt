@@ -30,10 +30,10 @@ use Rattle.program.specs.declared.Reading.{Reading as CommandReading}
 use Rattle.program.specs.declared.Reading.the-variants.{Good, Refused as NoCommand}
 use Rattle.judge.specs.Token.{tokOf, bad, get}
 use Rattle.judge.specs.Verdict.{judgeOf}
-use Rattle.judge.specs.Reach.{Refusal, too-long, no-caret, behind, wrong, loops, unclosed}
+use Rattle.grammar.specs.Reach.{Refusal, too-long, no-caret, behind, wrong, loops, unclosed}
 use Rattle.judge.specs.declared.Verdict.{Verdict}
 use Rattle.judge.specs.declared.Verdict.the-variants.{Finite, Endless, Refused as NoProgram}
-use Rattle.judge.proofs.Refusals.{refused-first}
+use Rattle.grammar.proofs.Refusals.{refused-first}
 use Rattle.course.specs.Steps.{Said, did, idle, nextOf, saidOf}
 use Rattle.machine.specs.Sound.{bodyOf, soundOf as runSound}
 use Rattle.machine.specs.Step.{stateOf, runOf, sayOf, startedOf, stepOf as runStep}

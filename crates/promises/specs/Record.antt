@@ -11,7 +11,7 @@ use Rattle.packet.specs.Wire.{totalOf, transmissionOf}
 use Rattle.reader.specs.Read.{readOf}
 use Rattle.reader.specs.declared.read.Reading.the-variants.{Reset as ResetRead}
 use Rattle.judge.specs.Verdict.{judgeOf}
-use Rattle.judge.specs.Grammar.{acceptedAs}
+use Rattle.grammar.specs.Grammar.{acceptedAs}
 use Rattle.judge.specs.declared.Verdict.the-variants.{Refused as NoProgram}
 use Rattle.machine.specs.Step.{startedOf}
 use Rattle.machine.specs.declared.Answer.the-variants.{Refused as Stopped}

@@ -18,7 +18,7 @@ use Rattle.reader.specs.declared.read.Reading.the-variants.{Normal}
 use Rattle.packet.proofs.Parts.{part-length}
 use Rattle.packet.proofs.Stands.{part-stands}
 use Rattle.reader.proofs.ReadBack.{body-reads}
-use Rattle.judge.specs.Grammar.{acceptedAs}
+use Rattle.grammar.specs.Grammar.{acceptedAs}
 use Rattle.judge.specs.Verdict.{judgeOf}
 use Rattle.judge.specs.declared.Verdict.{Verdict}
 use Rattle.machine.specs.Step.{startedOf}

@@ -6,7 +6,7 @@ use mathlib.Core.Bool.{Bool, true}
 use lib.ListN.{take}
 use Rattle.packet.specs.Wire.{totalOf, packetAt}
 use Rattle.judge.specs.Verdict.{judgeOf}
-use Rattle.judge.specs.Grammar.{acceptedAs}
+use Rattle.grammar.specs.Grammar.{acceptedAs}
 use Rattle.judge.specs.declared.Verdict.the-variants.{Refused as NoProgram}
 use Rattle.collect.specs.Slots.{noneOf}
 use Rattle.machine.specs.Step.{startedOf}

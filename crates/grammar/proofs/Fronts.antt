@@ -8,11 +8,11 @@ use native.Mathlib.Omega.{arith}
 use native.Mathlib.Decide.{decLt, decLe}
 use lib.ListN.{length, getD}
 use Rattle.program.specs.Bytes.{caret}
 use Rattle.judge.specs.Token.{Part, sizeOf}
 use Rattle.judge.specs.Verdict.{judgeOf}
-use Rattle.judge.specs.Grammar.{Tiled, done, more, Described, acceptedAs}
+use Rattle.grammar.specs.Grammar.{Tiled, done, more, Described, acceptedAs}
 use Rattle.judge.proofs.Tokens.{get-caret, get-only}
-use Rattle.judge.proofs.Grammars.{accepted-described}
+use Rattle.grammar.proofs.Grammars.{accepted-described}
 
 -- q is the front of one of the commands that stand from p on
 pub data Front (q : ℕ) : ℕ → List Part → Type 0 where

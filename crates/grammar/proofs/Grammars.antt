@@ -12,14 +12,14 @@ use lib.ListN.{length, getD}
 use Rattle.basis.specs.Choice.{when}
 use Rattle.program.specs.Bytes.{caret}
 use Rattle.program.specs.Command.{readOf}
 use Rattle.judge.specs.Token.{Act, Part, act, rep, close, forever, again, Tok, good, bad, sizeOf, get, chain, tokensOf}
 use Rattle.judge.specs.Structure.{opened}
 use Rattle.judge.specs.Verdict.{endOf, judge, commandsOf, judgeOf}
-use Rattle.judge.specs.Grammar.{Tiled, done, more, acts, Program, ends, over, ever, one, loop, Described, acceptedAs}
+use Rattle.grammar.specs.Grammar.{Tiled, done, more, acts, Program, ends, over, ever, one, loop, Described, acceptedAs}
 use Rattle.judge.specs.declared.Open.{Open}
 use Rattle.judge.specs.declared.Verdict.{Verdict}
 use Rattle.judge.specs.declared.Verdict.the-variants.{Finite, Endless, Refused}
 use Rattle.judge.proofs.Tokens.{get-two, get-within, get-caret, tokens-first, tokens-none}
 
 -- commands as tokens
 abbrev goods : List Part → List Tok

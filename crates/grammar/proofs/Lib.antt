@@ -1,0 +1,5 @@
+pub mod Grammars
+pub mod Refusals
+pub mod Fronts
+pub mod Standings
+pub mod Examples

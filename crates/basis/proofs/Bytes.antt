@@ -4,7 +4,7 @@ use mathlib.Core.Path.{_≡_, refl, sym, ap, _∙_}
 use mathlib.Core.List.{List, [], _∷_, _++_}
 use native.Mathlib.Omega.{arith}
 use native.Mathlib.Numerals.{add-one}
-use lib.ListN.{length, take, drop, getD, take-append-drop, drop-of-length-le}
+use lib.ListN.{length, take, drop, getD, length-take, length-drop, take-append-drop, drop-of-length-le}
 use lib.Seq.{drop-cons}
 use Rattle.basis.specs.Bytes.{Bytes}
 
@@ -13,6 +13,10 @@ pub byte-at : (b : List ℕ) (i : ℕ) → Bytes b → getD b i 0 < 256
 byte-at [] i h = omega arith
 byte-at (x ∷ xs) zero h = h .0
 byte-at (x ∷ xs) (suc i) h = byte-at xs i (h .1)
+
+-- a stretch that lies within a list has its length
+pub cut-length : (b : List ℕ) (at n : ℕ) → at + n ≤ length b → length (take n (drop at b)) ≡ n
+cut-length b at n h = simp (length-take, length-drop) (omega arith)
 
 -- all but the last two, and the last two
 pub two-behind : (b : List ℕ) (k : ℕ) → length b ≡ k + 2 → b ≡ take k b ++ getD b k 0 ∷ getD b (suc k) 0 ∷ []

@@ -1,8 +1,8 @@
 -- The parts of a record in a lent image: what the code copies is those parts laid over it, and the calls go by them.
 use Prim.Native.Nat.{ℕ, _+_, _-_, _≤_}
 use mathlib.Core.Bool.{Bool, true, false}
-use mathlib.Core.List.{List, [], _∷_, _++_, append-nil}
-use mathlib.Core.Path.{_≡_, refl, sym, ap, _∙_, subst}
+use mathlib.Core.List.{List, [], _++_, append-nil}
+use mathlib.Core.Path.{_≡_, refl, sym, ap, _∙_}
 use native.Mathlib.Omega.{arith}
 use lib.ListN.{length, take, drop, getD, drop-of-length-le}
 use lib.Seq.{take-all}
@@ -17,12 +17,11 @@ use Rattle.hear.specs.Frame.{framedBy}
 use Rattle.hear.specs.Hear.{hearOf}
 use Rattle.hear.specs.declared.Heard.{Heard}
 use Rattle.sign.specs.Sound.{framedOf}
-use Rattle.sign.specs.Step.{runsOf, stepOf}
-use Rattle.sign.specs.declared.Sign.{Sign}
-use Rattle.sign.specs.declared.Stepped.{Stepped}
+use Rattle.sign.specs.Step.{stepOf}
 use Rattle.sign.proofs.Stepping.{steppedOf, framed-steps, unframed-steps}
 use Rattle.image.specs.Layout.{placeBytes, frontBytes, imageOf, collectionOf, runOf, recordOf, runIn, placesIn, frontIn}
-use Rattle.image.proofs.Copies.{filled, part-length}
+use Rattle.basis.proofs.Bytes.{cut-length}
+use Rattle.image.proofs.Copies.{filled}
 use Rattle.image.proofs.Parts.{record-run, run-over, front-over, places-over, body-places}
 
 -- nothing is left of an image behind its last part
@@ -36,7 +35,7 @@ pub places-laid : (b y p : List ℕ) (r : Run) → length b ≡ 186 → length p
     → y ≡ take (length p) p ++ drop (length p) (take (length b - 177) (drop 177 b))
     → putMid 177 (length b - 177) b y ≡ placesIn r b
 places-laid b y p r e size same ey =
-    let room : length (take (length b - 177) (drop 177 b)) ≡ length b - 177 = part-length b 177 (length b - 177) (omega arith) in
+    let room : length (take (length b - 177) (drop 177 b)) ≡ length b - 177 = cut-length b 177 (length b - 177) (omega arith) in
     let within : 177 ≤ length b = omega arith in
     ap (λ (z : List ℕ). take 177 b ++ (y ++ z)) (to-the-end b 177 within)
     ∙ ap (λ (z : List ℕ). take 177 b ++ z) (append-nil y ∙ filled p _ y (omega arith) ey ∙ same)
@@ -45,7 +44,7 @@ places-laid b y p r e size same ey =
 pub body-laid : (b y body : List ℕ) → length b ≡ 186 → length body ≡ 84 → y ≡ take (length body) body ++ drop (length body) (take (177 - 93) (drop 93 b))
     → putMid 93 (177 - 93) b y ≡ take 93 b ++ (body ++ drop 177 b)
 body-laid b y body e size ey =
-    let room : length (take (177 - 93) (drop 93 b)) ≡ 177 - 93 = part-length b 93 (177 - 93) (omega arith) in
+    let room : length (take (177 - 93) (drop 93 b)) ≡ 177 - 93 = cut-length b 93 (177 - 93) (omega arith) in
     let order : 93 ≤ 177 = omega arith in
     ap (λ (z : List ℕ). take 93 b ++ (z ++ postOf 93 (177 - 93) b)) (filled body _ y (omega arith) ey)
     ∙ ap (λ (z : List ℕ). take 93 b ++ (body ++ z)) (post-is 93 177 b order)
@@ -116,7 +115,3 @@ module _ (image held : List ℕ) (r : Run) (c : Collection) (size : length image
 
   pub run-here : r ≡ runOf image
   run-here = er ∙ ap runOf eh
-
--- the image with another run
-pub run-kept : (image : List ℕ) (r : Run) → length image ≡ 186 → runIn r image ≡ imageOf (runsOf (recordOf image) r)
-run-kept image r e = run-over image r e

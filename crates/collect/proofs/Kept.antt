@@ -1,12 +1,12 @@
 -- A packet that obeys the rules, stored at a free position, leaves the slots right, and one more is held.
 use Prim.Native.Nat.{ℕ, zero, suc, _+_, _-_, _*_, _≤_, _<_}
 use mathlib.Core.List.{List, [], _∷_, _++_}
-use mathlib.Core.Bool.{Bool, true, false}
+use mathlib.Core.Bool.{Bool, true}
 use mathlib.Core.Path.{_≡_, refl, sym, ap, _∙_}
 use native.Mathlib.Omega.{arith}
-use lib.Dec.{eqb, ltb, leb}
-use lib.ListN.{length, getD, take, drop, set, replicate, length-append, length-drop}
-use lib.Seq.{drop-append-seam, drop-append-le, take-append-le, drop-drop, drop-at, take-at, take-take, take-add, length-take-le}
+use lib.Dec.{eqb}
+use lib.ListN.{length, getD, take, drop, set, length-drop}
+use lib.Seq.{drop-append-seam, drop-append-le, take-append-le, drop-drop, drop-at, take-take, length-take-le}
 use borrow.Author.Tests.{ne-eqb}
 use Rattle.basis.specs.Bytes.{laid}
 use Rattle.basis.specs.Choice.{when, _and_, _or_}

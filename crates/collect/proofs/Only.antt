@@ -1,7 +1,7 @@
 -- A sound collection depends only on what it holds: of equal ID and total, and with equal packets, two are one.
-use Prim.Native.Nat.{ℕ, zero, suc, _+_, _-_, _*_, _≤_}
+use Prim.Native.Nat.{ℕ, _+_, _-_, _*_, _≤_}
 use mathlib.Core.List.{List, [], _∷_, _++_}
-use mathlib.Core.Bool.{Bool, true}
+use mathlib.Core.Bool.{true}
 use mathlib.Core.Path.{_≡_, refl, sym, ap, _∙_}
 use native.Mathlib.Omega.{arith}
 use lib.ListN.{length, take, drop, length-drop, take-append-drop}
@@ -10,7 +10,7 @@ use Rattle.machine.specs.Sound.{zerosOf}
 use Rattle.collect.specs.Slots.{slotsOf, packetsOf}
 use Rattle.collect.specs.declared.Collection.{Collection}
 use Rattle.collect.proofs.Turns.{rule-most}
-use Rattle.collect.proofs.Joined.{First, first, all-zeros, blank}
+use Rattle.collect.proofs.Joined.{first, all-zeros, blank}
 
 -- a slot is its data and zeros
 slot-is : (len : ℕ) (room : List ℕ) → len ≤ 14 → 14 ≤ length room → zerosOf (take (14 - len) (drop len room)) ≡ true

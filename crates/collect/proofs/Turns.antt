@@ -5,11 +5,12 @@ use mathlib.Core.Bool.{Bool, true, false}
 use mathlib.Core.Path.{_≡_, refl, sym, ap, _∙_}
 use native.Mathlib.Numerals.{add-one}
 use native.Mathlib.Omega.{arith}
-use lib.Dec.{eqb, ltb, leb}
-use lib.ListN.{length, getD, take, drop, length-take, length-drop, drop-of-length-le, take-append-drop}
+use lib.Dec.{eqb, leb}
+use lib.ListN.{length, getD, take, drop, length-drop, drop-of-length-le, take-append-drop}
 use lib.Seq.{drop-cons, drop-drop}
 use borrow.Author.Tests.{leb-true, le-leb, eqb-true}
 use Rattle.basis.specs.Choice.{when, _and_, _or_}
+use Rattle.basis.proofs.Bytes.{cut-length}
 use Rattle.basis.proofs.Choices.{when-true}
 use Rattle.machine.specs.Sound.{zerosOf}
 use Rattle.collect.specs.Slots.{ruleOf, oneOf, heldOf, slotsOf}
@@ -111,8 +112,10 @@ drop-take (suc n) (suc k) [] h = nil (suc k - suc n)
 drop-take (suc n) (suc k) (x ∷ xs) h = let e : k - n ≡ suc k - suc n = omega arith in drop-take n k xs (omega arith) ∙ ap (λ (m : ℕ). take m (drop n xs)) e
 
 -- a slot that the code lends has 14 bytes
-pub part-length : (room : List ℕ) (i : ℕ) → 14 * i + 14 ≤ length room → length (take (14 * i + 14 - 14 * i) (drop (14 * i) room)) ≡ 14
-part-length room i h = simp (length-take, length-drop) (omega arith)
+pub slot-length : (room : List ℕ) (i : ℕ) → 14 * i + 14 ≤ length room → length (take (14 * i + 14 - 14 * i) (drop (14 * i) room)) ≡ 14
+slot-length room i h =
+    let e : 14 * i + 14 - 14 * i ≡ 14 = omega arith in
+    ap (λ (n : ℕ). length (take n (drop (14 * i) room))) e ∙ cut-length room (14 * i) 14 h
 
 -- the room behind a slot's data, as the code lends it
 pub slot-cut : (room : List ℕ) (i len : ℕ) → len ≤ 14

@@ -2,11 +2,10 @@
 use Prim.Native.Nat.{ℕ}
 use mathlib.Core.Path.{_≡_, refl}
 use mathlib.Core.List.{List, [], _∷_}
-use Rattle.program.specs.Table.{table}
 use Rattle.program.specs.Command.{readOf}
 use Rattle.judge.specs.Verdict.{judgeOf}
 use Rattle.judge.specs.declared.Verdict.{Verdict}
-use Rattle.judge.specs.declared.Verdict.the-variants.{Finite, Endless, Refused}
+use Rattle.judge.specs.declared.Verdict.the-variants.{Finite, Refused}
 
 -- a body and its verdict
 pub record Example : Type 0 where

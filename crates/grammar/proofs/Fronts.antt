@@ -1,8 +1,8 @@
 -- The carets of an accepted body are the fronts of its commands, and nothing else is.
 use Prim.Native.Nat.{ℕ, _+_, _≤_, _<_}
-use mathlib.Core.Path.{_≡_, refl, sym, ap, subst, _∙_}
+use mathlib.Core.Path.{_≡_, sym, ap, _∙_}
 use mathlib.Core.Bool.{Bool}
-use mathlib.Core.List.{List, [], _∷_}
+use mathlib.Core.List.{List, _∷_}
 use mathlib.Core.Logic.{dite, _↔_}
 use native.Mathlib.Omega.{arith}
 use native.Mathlib.Decide.{decLt, decLe}
@@ -10,7 +10,7 @@ use lib.ListN.{length, getD}
 use Rattle.program.specs.Bytes.{caret}
 use Rattle.judge.specs.Token.{Part, sizeOf}
 use Rattle.judge.specs.Verdict.{judgeOf}
-use Rattle.grammar.specs.Grammar.{Tiled, done, more, Described, acceptedAs}
+use Rattle.grammar.specs.Grammar.{Tiled, done, more, acceptedAs}
 use Rattle.judge.proofs.Tokens.{get-caret, get-only}
 use Rattle.grammar.proofs.Grammars.{accepted-described}
 

@@ -1,23 +1,21 @@
 -- `judge` accepts exactly the bodies that the grammar describes.
-use Prim.Native.Nat.{ℕ, zero, suc, _+_, _≤_, _<_}
+use Prim.Native.Nat.{ℕ, _+_, _≤_, _<_}
 use mathlib.Core.Path.{_≡_, refl, sym, ap, subst, _∙_}
 use mathlib.Core.Bool.{Bool, true, false}
-use mathlib.Core.List.{List, [], _∷_, map}
+use mathlib.Core.List.{List, [], _∷_}
 use mathlib.Core.Logic.{dite}
 use native.Mathlib.Omega.{arith}
 use native.Mathlib.Decide.{decLt}
-use borrow.Author.Tests.{le-ltb, lt-ltb, eq-eqb, ltb-false, eqb-true}
+use borrow.Author.Tests.{le-ltb, eq-eqb, ltb-false, eqb-true}
 use lib.Dec.{eqb, ltb}
 use lib.ListN.{length, getD}
 use Rattle.basis.specs.Choice.{when}
 use Rattle.program.specs.Bytes.{caret}
-use Rattle.program.specs.Command.{readOf}
 use Rattle.judge.specs.Token.{Act, Part, act, rep, close, forever, again, Tok, good, bad, sizeOf, get, chain, tokensOf}
 use Rattle.judge.specs.Structure.{opened}
-use Rattle.judge.specs.Verdict.{endOf, judge, commandsOf, judgeOf}
+use Rattle.judge.specs.Verdict.{judge, commandsOf, judgeOf}
 use Rattle.grammar.specs.Grammar.{Tiled, done, more, acts, Program, ends, over, ever, one, loop, Described, acceptedAs}
 use Rattle.judge.specs.declared.Open.{Open}
-use Rattle.judge.specs.declared.Verdict.{Verdict}
 use Rattle.judge.specs.declared.Verdict.the-variants.{Finite, Endless, Refused}
 use Rattle.judge.proofs.Tokens.{get-two, get-within, get-caret, tokens-first, tokens-none}
 

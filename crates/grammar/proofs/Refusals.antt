@@ -12,12 +12,11 @@ use lib.ListN.{length, getD}
 use Rattle.basis.specs.Choice.{when}
 use Rattle.program.specs.Bytes.{caret}
 use Rattle.judge.specs.Token.{Part, Tok, good, bad, sizeOf, get, chain, tokensOf}
-use Rattle.judge.specs.Structure.{Structure, broken, kept, structureOf, roleIn, opened, Move, stop, go, moved, moveOf}
+use Rattle.judge.specs.Structure.{Structure, broken, kept, structureOf, roleIn, opened, moved}
 use Rattle.judge.specs.Verdict.{endOf, judged, judge, commandsOf, judgeOf}
 use Rattle.grammar.specs.Reach.{Reach, start, past, Begun, Refusal, too-long, no-caret, behind, wrong, loops, unclosed}
 use Rattle.judge.specs.declared.Open.{Open}
-use Rattle.judge.specs.declared.Verdict.{Verdict}
-use Rattle.judge.specs.declared.Verdict.the-variants.{Finite, Endless, Refused}
+use Rattle.judge.specs.declared.Verdict.the-variants.{Refused}
 use Rattle.judge.proofs.Tokens.{get-two, get-within, tokens-first, tokens-none}
 
 as-refusal : (b : List ℕ) (k r n q : ℕ) → Refused k r ≡ Refused n q → Refusal b k r → Refusal b n q

@@ -8,7 +8,7 @@ use mathlib.Core.Bool.{Bool, true, false}
 use lib.ListN.{length, getD}
 use Rattle.program.specs.Bytes.{caret}
 use Rattle.judge.specs.Token.{Part, Tok, good, bad, sizeOf, get}
-use Rattle.judge.specs.Structure.{Structure, broken, kept, structureOf, roleIn, opened}
+use Rattle.judge.specs.Structure.{broken, kept, structureOf, roleIn, opened}
 use Rattle.judge.specs.declared.Open.{Open}
 
 -- Over any reader of places and any number of loops that may be open at once: every command before this place is good and

@@ -1,5 +1,5 @@
 -- Bytes that come to a sound frame are judged by what is read of them, and what is released is a whole collection.
-use Prim.Native.Nat.{ℕ, _+_, _-_, _≤_}
+use Prim.Native.Nat.{ℕ, _-_, _≤_}
 use mathlib.Core.List.{List}
 use mathlib.Core.Bool.{Bool, true, false, not}
 use mathlib.Core.Path.{_≡_, refl, sym, ap, _∙_, subst}
@@ -20,7 +20,7 @@ use Rattle.collect.specs.declared.Collection.{Collection}
 use Rattle.collect.proofs.Sounds.{sound-slots}
 use Rattle.hear.specs.Frame.{framedBy}
 use Rattle.hear.specs.Hear.{heardOf, hearOf}
-use Rattle.hear.specs.Join.{slotOf, goesBy, beginsOf, joinBy, stayOf, wholeOf, countOf, Right, Open, Whole, Sure}
+use Rattle.hear.specs.Join.{slotOf, beginsOf, joinBy, stayOf, wholeOf, countOf, Right, Open, Whole, Sure}
 use Rattle.hear.specs.declared.Heard.{Heard}
 use Rattle.hear.specs.declared.Outcome.{Outcome}
 use Rattle.hear.specs.declared.Outcome.the-variants.{Query, Reset, Repeat, Stored, Released, Refused}

@@ -1,5 +1,5 @@
 -- A packet and the collection that it goes into: its position has room, or holds what decides.
-use Prim.Native.Nat.{ℕ, _+_, _-_, _*_, _≤_, _<_}
+use Prim.Native.Nat.{ℕ, _+_, _-_, _*_, _≤_}
 use mathlib.Core.List.{List}
 use mathlib.Core.Bool.{Bool, true, false, not}
 use mathlib.Core.Path.{_≡_, refl, sym, ap, _∙_, subst}
@@ -8,7 +8,7 @@ use lib.Dec.{eqb}
 use lib.ListN.{length, getD, take, drop, replicate, getD-replicate}
 use borrow.Author.Tests.{eq-eqb, ne-eqb}
 use Rattle.basis.specs.Choice.{when}
-use Rattle.basis.proofs.Choices.{when-true, when-false}
+use Rattle.basis.proofs.Choices.{when-false}
 use Rattle.collect.specs.Slots.{sameOf, slotsOf, begunOf, storedOf}
 use Rattle.collect.specs.Sound.{soundOf}
 use Rattle.collect.specs.declared.Collection.{Collection}

@@ -1,6 +1,6 @@
 -- What the reader lets pass obeys the packet rules, and its data lie within its bytes.
-use Prim.Native.Nat.{ℕ, zero, suc, _+_, _-_, _/_, _%_, _≤_, _<_}
-use mathlib.Core.List.{List, [], _∷_}
+use Prim.Native.Nat.{ℕ, _+_, _-_, _/_, _%_, _≤_, _<_}
+use mathlib.Core.List.{List}
 use mathlib.Core.Bool.{Bool, true, false, not}
 use mathlib.Core.Path.{_≡_, refl, sym, ap, _∙_, subst}
 use native.Mathlib.Omega.{arith}
@@ -9,11 +9,9 @@ use lib.ListN.{length, getD, take, drop, length-drop}
 use lib.Seq.{length-take-le}
 use borrow.Author.Tests.{ltb-false, leb-false, eqb-false, lt-ltb, leb-true}
 use Rattle.basis.specs.Choice.{when, _and_, _or_}
-use Rattle.basis.specs.Rows.{Passed}
-use Rattle.reader.specs.Read.{wrongPlace, fieldRows, readOf}
-use Rattle.reader.specs.declared.read.Reading.{Reading}
-use Rattle.reader.specs.declared.read.Reading.the-variants.{Query, Reset, Normal, Refused}
-use Rattle.reader.proofs.Unique.{passed, framed, Framed}
+use Rattle.reader.specs.Read.{wrongPlace, readOf}
+use Rattle.reader.specs.declared.read.Reading.the-variants.{Query, Reset, Normal}
+use Rattle.reader.proofs.Unique.{passed, framed}
 use Rattle.hear.specs.Join.{Right}
 
 -- none of the tests of a disjunction holds

@@ -10,7 +10,7 @@ use lib.Seq.{take-at, drop-at, drop-drop, drop-cons, getD-drop, length-take-le}
 use borrow.Author.Tests.{eqb-true, eqb-false}
 use Rattle.basis.specs.Choice.{when}
 use Rattle.basis.specs.Bytes.{Bytes}
-use Rattle.basis.proofs.Bytes.{byte-at}
+use Rattle.basis.proofs.Bytes.{byte-at, cut-length}
 use Rattle.basis.proofs.Choices.{and-parts}
 use Rattle.judge.specs.Standing.{insideOf}
 use Rattle.judge.specs.declared.Open.{Open}
@@ -24,7 +24,6 @@ use Rattle.sign.specs.Sound.{soundOf}
 use Rattle.sign.specs.declared.Sign.{Sign}
 use Rattle.sign.proofs.Sounds.{sound-parts}
 use Rattle.image.specs.Layout.{placeBytes, runBytes, imageOf, recordOf}
-use Rattle.image.proofs.Copies.{part-length}
 
 -- the arrays of a record have their lengths, which its type says
 pub record Shaped (s : Sign) : Type 0 where
@@ -172,9 +171,9 @@ pub image-shaped : (b : List ℕ) → length b ≡ 186 → Shaped (recordOf b)
 unfolding recordOf
 image-shaped b e =
     record {
-      lens = part-length b 3 6 (omega arith);
-      room = part-length b 9 84 (omega arith);
-      body = part-length b 93 84 (omega arith);
+      lens = cut-length b 3 6 (omega arith);
+      room = cut-length b 9 84 (omega arith);
+      body = cut-length b 93 84 (omega arith);
     }
 
 pub image-small : (b : List ℕ) → Bytes b → Small (recordOf b)

@@ -4,7 +4,7 @@ use mathlib.Core.Bool.{Bool, true, false}
 use mathlib.Core.List.{List, _++_, append-nil}
 use mathlib.Core.Path.{_≡_, refl, ap, _∙_}
 use native.Mathlib.Omega.{arith}
-use lib.ListN.{length, take, drop, length-take, length-drop, drop-of-length-le}
+use lib.ListN.{length, take, drop, drop-of-length-le}
 use lib.Seq.{take-all}
 use mir.Val.{boolByte}
 use Rattle.basis.specs.Choice.{when}
@@ -22,7 +22,3 @@ filled s room y e h =
 pub byte-of : (b : Bool) → boolByte b ≡ when b 1 0
 byte-of true = refl
 byte-of false = refl
-
--- a part of a list that lies within it has its length
-pub part-length : (b : List ℕ) (at n : ℕ) → at + n ≤ length b → length (take n (drop at b)) ≡ n
-part-length b at n h = simp (length-take, length-drop) (omega arith)

@@ -1,25 +1,22 @@
 -- Delivery (demand 2): the packets of a body, received in order, are Stored but for the last, which releases that very body.
 use Prim.Native.Nat.{ℕ, zero, suc, _+_, _-_, _*_, _≤_, _<_}
-use mathlib.Core.List.{List, [], _∷_, _++_}
+use mathlib.Core.List.{List, _++_}
 use mathlib.Core.Bool.{Bool, true, false, not}
 use mathlib.Core.Path.{_≡_, refl, sym, ap, _∙_, subst}
 use native.Mathlib.Omega.{arith}
-use lib.Dec.{eqb, ltb, leb}
-use lib.ListN.{length, getD, set, take, drop, replicate, getD-replicate, length-set, length-append, length-replicate}
+use lib.Dec.{eqb, leb}
+use lib.ListN.{length, getD, take, getD-replicate, length-set, length-append}
 use lib.Seq.{length-take-le, take-all, take-add, getD-set-same, getD-set-other}
 use borrow.Author.Tests.{eq-eqb, ne-eqb, le-leb, lt-leb}
 use Rattle.basis.specs.Bytes.{laid}
-use Rattle.basis.specs.Choice.{when, _or_}
+use Rattle.basis.specs.Choice.{_or_}
 use Rattle.basis.proofs.Choices.{when-true, when-false}
 use Rattle.basis.proofs.Laid.{take-laid, length-laid, laid-over}
-use Rattle.packet.specs.Wire.{totalOf, partOf, packetOf, fifthOf, packetAt}
-use Rattle.reader.specs.Read.{readOf}
-use Rattle.reader.specs.declared.read.Reading.the-variants.{Normal}
+use Rattle.packet.specs.Wire.{totalOf, partOf, fifthOf, packetAt}
 use Rattle.packet.proofs.Parts.{part-length}
 use Rattle.packet.proofs.Stands.{part-stands}
 use Rattle.reader.proofs.ReadBack.{body-reads}
 use Rattle.grammar.specs.Grammar.{acceptedAs}
-use Rattle.judge.specs.Verdict.{judgeOf}
 use Rattle.judge.specs.declared.Verdict.{Verdict}
 use Rattle.machine.specs.Step.{startedOf}
 use Rattle.collect.specs.Slots.{heldOf, slotsOf, joinedOf, begunOf, storedOf}
@@ -28,16 +25,16 @@ use Rattle.collect.proofs.Joined.{blank}
 use Rattle.collect.proofs.Kept.{held-more}
 use Rattle.collect.proofs.Sounds.{begun-slots}
 use Rattle.sign.specs.Sound.{soundOf}
-use Rattle.hear.specs.Join.{slotOf, beginsOf, Right, Open, Whole}
-use Rattle.sign.specs.Join.{staysOf, startsOf, storesOf, releaseOf, releasedOf, countedOf, placedOf, goesOn, joinOf}
+use Rattle.hear.specs.Join.{beginsOf, Right, Open, Whole}
+use Rattle.sign.specs.Join.{staysOf, startsOf, storesOf, releaseOf, releasedOf, countedOf, placedOf, joinOf}
 use Rattle.sign.specs.Receive.{heardOf, receiveOf}
 use Rattle.service.specs.Delivery.{afterPackets, answerTo, Awaits, Delivered}
 use Rattle.sign.specs.declared.Sign.{Sign}
 use Rattle.sign.specs.declared.Received.{Received}
-use Rattle.hear.specs.declared.Outcome.the-variants.{Repeat, Stored, Refused}
-use Rattle.hear.proofs.Places.{stored-slots, whole-size, whole-body}
+use Rattle.hear.specs.declared.Outcome.the-variants.{Stored}
+use Rattle.hear.proofs.Places.{stored-slots, whole-body}
 use Rattle.sign.proofs.Joining.{sound-receives}
-use Rattle.service.proofs.Keeps.{Roomy, Good, receive-good}
+use Rattle.service.proofs.Keeps.{Good, receive-good}
 
 -- the collection behind the first packets of a body
 abbrev upTo : ℕ → List ℕ → ℕ → Collection

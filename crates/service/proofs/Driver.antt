@@ -1,15 +1,14 @@
 -- A query, a repeat and a refusal leave the record (demand 1), and a Busy record is left by all bytes but a reset for this MID: so
 -- what comes between the steps of a running line changes none of them.
-use Prim.Native.Nat.{ℕ, zero, suc}
+use Prim.Native.Nat.{ℕ}
 use mathlib.Core.List.{List, [], _∷_}
 use mathlib.Core.Bool.{Bool, true, false, not}
 use mathlib.Core.Path.{_≡_, refl, sym, ap, _∙_, subst}
 use native.Mathlib.Omega.{arith}
 use lib.Dec.{eqb, leb}
-use lib.ListN.{length, getD, take, drop}
+use lib.ListN.{getD, take, drop}
 use borrow.Author.Tests.{ne-eqb, eqb-true, eqb-false}
 use Rattle.basis.specs.Choice.{when, _or_}
-use Rattle.basis.proofs.Choices.{when-true, when-false}
 use Rattle.collect.specs.Slots.{heldOf, begunOf, sameOf, storedOf}
 use Rattle.collect.specs.declared.Collection.{Collection}
 use Rattle.reader.specs.Read.{readOf}
@@ -20,11 +19,11 @@ use Rattle.course.specs.Steps.{Said, did, idle, at, saidOf}
 use Rattle.machine.specs.Step.{framesOf, sayOf, stepOf as runStep}
 use Rattle.machine.specs.Sound.{bodyOf, soundOf as runSound}
 use Rattle.machine.specs.declared.Answer.{Answer}
-use Rattle.machine.specs.declared.Answer.the-variants.{Did, Idle, Refused as Stopped}
+use Rattle.machine.specs.declared.Answer.the-variants.{Refused as Stopped}
 use Rattle.sign.specs.Sound.{soundOf}
 use Rattle.sign.specs.Reset.{resetOf, clearedOf}
 use Rattle.hear.specs.Join.{slotOf}
-use Rattle.sign.specs.Join.{staysOf, storesOf, releaseOf, releasedOf, countedOf, placedOf, goesOn, joinOf}
+use Rattle.sign.specs.Join.{staysOf, storesOf, releaseOf, releasedOf, placedOf, goesOn, joinOf}
 use Rattle.sign.specs.Receive.{heardOf, receiveOf}
 use Rattle.sign.specs.Step.{stepOf}
 use Rattle.service.specs.Driver.{movesOf, Event, step, bytes, afterEvents, saidEvents, afterSteps, saidSteps, stepsIn, Undisturbed}
@@ -33,7 +32,7 @@ use Rattle.sign.specs.declared.Received.{Received}
 use Rattle.sign.specs.declared.Cleared.{Cleared}
 use Rattle.sign.specs.declared.Stepped.{Stepped}
 use Rattle.hear.specs.declared.Outcome.{Outcome}
-use Rattle.hear.specs.declared.Outcome.the-variants.{Query, Reset, Repeat, Stored, Released, Refused}
+use Rattle.hear.specs.declared.Outcome.the-variants.{Query, Reset, Repeat, Refused}
 use Rattle.machine.specs.declared.Stepped.{Stepped as RunStepped}
 use Rattle.machine.proofs.Keeps.{step-ready, step-busy}
 use Rattle.sign.proofs.Joining.{sound-receives, unsound-receives}

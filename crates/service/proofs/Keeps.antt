@@ -1,18 +1,15 @@
 -- A sound record stays sound (demand 1): of power-on, and behind every receive, step and reset.
-use Prim.Native.Nat.{ℕ, zero, suc, _+_, _-_, _*_, _≤_, _<_}
+use Prim.Native.Nat.{ℕ, _+_, _-_, _*_, _≤_, _<_}
 use mathlib.Core.List.{List, _++_}
 use mathlib.Core.Bool.{Bool, true, false, not}
 use mathlib.Core.Path.{_≡_, refl, sym, ap, _∙_, subst}
-use mathlib.Core.Logic.{dite}
-use native.Mathlib.Decide.{decLe}
 use native.Mathlib.Omega.{arith}
 use lib.Dec.{eqb, leb}
 use lib.ListN.{length, getD, set, take, drop, length-set, length-append, length-drop}
 use lib.Seq.{length-take-le}
-use borrow.Author.Tests.{le-leb, leb-false, leb-true, eqb-true, eqb-false, not-true, not-false, eq-eqb, ne-eqb, ltb-false, le-ltb}
-use Rattle.basis.specs.Bytes.{laid}
+use borrow.Author.Tests.{le-leb, leb-false, eqb-true, eqb-false}
 use Rattle.basis.specs.Choice.{when, _and_, _or_, within}
-use Rattle.basis.proofs.Choices.{and-parts, and-true, when-true, when-false}
+use Rattle.basis.proofs.Choices.{and-parts, when-true}
 use Rattle.basis.proofs.Laid.{length-laid}
 use Rattle.reader.specs.Read.{readOf}
 use Rattle.reply.specs.Reply.{isLast}
@@ -23,11 +20,10 @@ use Rattle.perform.specs.declared.settings.Settings.{Settings}
 use Rattle.judge.specs.Verdict.{judgeOf}
 use Rattle.judge.specs.declared.Verdict.{Verdict}
 use Rattle.judge.specs.declared.Verdict.the-variants.{Finite, Endless, Refused as NoProgram}
-use Rattle.collect.specs.Slots.{heldOf, slotsOf, joinedOf, begunOf, noneOf, sameOf, storedOf}
-use Rattle.collect.specs.Sound.{soundOf as collectionSound}
+use Rattle.collect.specs.Slots.{heldOf, joinedOf, begunOf, sameOf, storedOf}
 use Rattle.collect.specs.declared.Collection.{Collection}
 use Rattle.collect.proofs.Kept.{held-more}
-use Rattle.collect.proofs.Sounds.{Collecting, sound-slots, sound-collecting, collecting-sound, none-sound}
+use Rattle.collect.proofs.Sounds.{sound-collecting, collecting-sound, none-sound}
 use Rattle.machine.specs.Sound.{soundOf as runSound}
 use Rattle.machine.specs.Step.{readyOf, startedOf, stepOf as runStep}
 use Rattle.machine.specs.declared.Run.{Run}
@@ -38,8 +34,8 @@ use Rattle.machine.proofs.Keeps.{ready-sound, step-ready, step-keeps}
 use Rattle.machine.proofs.Follows.{started-sound, started-room}
 use Rattle.sign.specs.Sound.{soundOf}
 use Rattle.sign.specs.Reset.{startSettings, freshOf, resetOf, powerOn, clearedOf}
-use Rattle.hear.specs.Join.{slotOf, beginsOf, Right, Open}
-use Rattle.sign.specs.Join.{staysOf, startsOf, storesOf, releaseOf, releasedOf, countedOf, placedOf, goesOn, joinOf}
+use Rattle.hear.specs.Join.{slotOf, Right, Open}
+use Rattle.sign.specs.Join.{staysOf, startsOf, storesOf, releaseOf, releasedOf, placedOf, goesOn, joinOf}
 use Rattle.sign.specs.Receive.{heardOf, receiveOf}
 use Rattle.sign.specs.Step.{runsOf, stepOf}
 use Rattle.sign.specs.declared.Sign.{Sign}
@@ -49,10 +45,10 @@ use Rattle.sign.specs.declared.Stepped.{Stepped}
 use Rattle.hear.specs.declared.Outcome.{Outcome}
 use Rattle.hear.specs.declared.Outcome.the-variants.{Repeat, Query as Asked, Reset as WasReset, Refused as Denied}
 use Rattle.sign.proofs.Sounds.{Parts, sound-parts, parts-sound, busy-none, ready-alone, none-alone}
-use Rattle.sign.proofs.Stepping.{steppedOf, sound-steps, unsound-steps}
-use Rattle.hear.proofs.Packets.{Read, normal-read}
+use Rattle.sign.proofs.Stepping.{sound-steps}
+use Rattle.hear.proofs.Packets.{normal-read}
 use Rattle.hear.proofs.Places.{begun-open, stored-slots}
-use Rattle.sign.proofs.Joining.{goes-open, sound-receives, unsound-receives}
+use Rattle.sign.proofs.Joining.{goes-open, sound-receives}
 
 -- the rooms of a record have their sizes, as the arrays of the code do
 pub record Roomy (s : Sign) : Type 0 where

@@ -1,10 +1,10 @@
 -- A sound record depends only on what it holds: of equal IDs, packets, running body, places, count and settings, two are one.
 use Prim.Native.Nat.{ℕ, _+_, _-_, _≤_}
 use mathlib.Core.List.{List, _++_}
-use mathlib.Core.Bool.{Bool, true}
-use mathlib.Core.Path.{_≡_, refl, sym, ap, _∙_}
+use mathlib.Core.Bool.{true}
+use mathlib.Core.Path.{_≡_, sym, ap, _∙_}
 use native.Mathlib.Omega.{arith}
-use lib.ListN.{length, take, drop, length-drop, take-append-drop}
+use lib.ListN.{length, drop, length-drop, take-append-drop}
 use lib.Seq.{length-take-le}
 use Rattle.perform.specs.declared.settings.Settings.{Settings}
 use Rattle.collect.specs.Slots.{packetsOf}

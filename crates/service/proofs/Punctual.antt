@@ -1,9 +1,8 @@
 -- A started line keeps to its forecast, whatever packets come while it runs.
-use Prim.Native.Nat.{ℕ, zero, suc, _<_}
-use mathlib.Core.List.{List, [], _∷_}
+use Prim.Native.Nat.{ℕ, zero, suc}
+use mathlib.Core.List.{List, _∷_}
 use mathlib.Core.Bool.{true}
-use mathlib.Core.Path.{_≡_, refl, sym, ap, _∙_, subst}
-use lib.ListN.{length}
+use mathlib.Core.Path.{_≡_, refl, sym, ap, _∙_}
 use Rattle.perform.specs.Settings.{soundOf as settingsSound}
 use Rattle.perform.specs.declared.settings.Settings.{Settings}
 use Rattle.judge.specs.Verdict.{judgeOf}
@@ -12,7 +11,7 @@ use Rattle.machine.specs.Step.{readyOf, startedOf, afterRun, saidRun}
 use Rattle.machine.specs.declared.Answer.{Answer}
 use Rattle.machine.specs.declared.Run.{Run}
 use Rattle.reckon.proofs.Demand.{forecast-holds}
-use Rattle.machine.proofs.Lines.{BusyRun, line-ends}
+use Rattle.machine.proofs.Lines.{line-ends}
 use Rattle.service.specs.Driver.{Event, afterEvents, saidEvents, afterSteps, saidSteps, stepsIn, Undisturbed}
 use Rattle.service.specs.Punctual.{OnTime}
 use Rattle.sign.specs.Step.{stepOf}

@@ -1,6 +1,6 @@
 -- What may happen to a record between power-on and power-off: steps, and bytes off the line, in any order.
 -- The driver's wish: "a line that has started to run runs to its end, once".
-use Prim.Native.Nat.{ℕ, zero, suc, _+_}
+use Prim.Native.Nat.{ℕ, zero, suc}
 use mathlib.Core.List.{List, [], _∷_}
 use mathlib.Core.Path.{_≡_}
 use mathlib.Core.Bool.{Bool, true, false}

@@ -15,7 +15,7 @@ use Rattle.reader.specs.declared.read.Reading.{Reading}
 use Rattle.reader.specs.declared.read.Reading.the-variants.{Query as QueryRead, Reset as ResetRead, Normal, Refused as Unread}
 use Rattle.machine.specs.Sound.{soundOf as runSound}
 use Rattle.hear.specs.Hear.{heardOf as heardBy, hearOf}
-use Rattle.hear.specs.Join.{slotOf, goesBy, beginsOf, joinBy, stayOf, wholeOf, countOf, Right, Open}
+use Rattle.hear.specs.Join.{slotOf, beginsOf, joinBy, stayOf, wholeOf, countOf, Right, Open}
 use Rattle.hear.specs.declared.Heard.{Heard}
 use Rattle.hear.specs.declared.Outcome.the-variants.{Repeat, Stored, Refused}
 use Rattle.hear.proofs.Joining.{into-open}

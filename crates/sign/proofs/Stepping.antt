@@ -1,5 +1,4 @@
 -- A step of a sound record is a step of its run.
-use Prim.Native.Nat.{ℕ}
 use mathlib.Core.Bool.{Bool, true, false}
 use mathlib.Core.Path.{_≡_, refl, sym, ap, _∙_}
 use Rattle.basis.proofs.Choices.{when-true, when-false}

@@ -2,15 +2,14 @@
 use Prim.Native.Nat.{ℕ, _≤_, _<_}
 use mathlib.Core.List.{List, [], _∷_, _++_}
 use mathlib.Core.Bool.{Bool, true, false, not}
-use mathlib.Core.Path.{_≡_, refl, sym, ap, _∙_}
+use mathlib.Core.Path.{_≡_, sym, ap, _∙_}
 use native.Mathlib.Omega.{arith}
-use lib.Dec.{eqb, ltb}
 use lib.ListN.{length, take, drop}
 use lib.Seq.{length-take-le, take-length}
 use borrow.Author.Tests.{le-ltb, lt-ltb}
 use Rattle.basis.specs.Bytes.{laid}
 use Rattle.basis.specs.Choice.{when}
-use Rattle.basis.specs.Rows.{Row, _if_, firstOf}
+use Rattle.basis.specs.Rows.{_if_, firstOf}
 use Rattle.machine.specs.Sound.{bodyOf}
 use Rattle.reply.specs.Reply.{isLast, replyRows}
 use Rattle.packet.specs.Write.{shortBy, answerOf, bufferOf, Writes}

@@ -1,13 +1,11 @@
 -- Which records are sound, one rule for each part.
 -- 01: "A record is sound if: last ID 0 to 3Fh or 41h; pace, scans, threshold in range, brightness 0 or 2 to 31; the collected packets ..;
 -- unused room holds zeros; Ready has no body, and places and count 0; Busy collects nothing, has an accepted body and .."
-use Prim.Native.Nat.{ℕ}
 use mathlib.Core.Bool.{Bool}
 use lib.Dec.{eqb}
 use Rattle.basis.specs.Choice.{_and_, _or_}
 use Rattle.reply.specs.Reply.{isLast}
 use Rattle.collect.specs.Sound.{soundOf as collectionSound}
-use Rattle.collect.specs.declared.Collection.{Collection}
 use Rattle.machine.specs.Sound.{soundOf as runSound}
 use Rattle.hear.specs.Frame.{framedBy}
 use Rattle.sign.specs.declared.Sign.{Sign}

@@ -1,6 +1,5 @@
 -- One step of the record: 16 for an unsound one, which stays; otherwise the run goes on by a step and all else stays.
-use Prim.Native.Nat.{ℕ, zero, suc}
-use mathlib.Core.List.{List, [], _∷_}
+use Prim.Native.Nat.{ℕ}
 use Rattle.basis.specs.Choice.{when}
 use Rattle.machine.specs.Step.{stepOf as runStep}
 use Rattle.machine.specs.declared.Run.{Run}

@@ -1,8 +1,7 @@
 -- `lay_started` goes by the verdict.
 use borrow.Author.Needs.{needs}
-use mathlib.Core.Path.{_≡_, sym, ap, _∙_}
+use mathlib.Core.Path.{sym, ap, _∙_}
 use Rattle.judge.specs.declared.Verdict.{Verdict}
-use Rattle.judge.specs.declared.Verdict.the-variants.{Finite, Endless, Refused}
 use Rattle.machine.specs.declared.Run.{Run}
 use Rattle.sign.specs.Join.{startsOf, startOf}
 use Rattle.image.specs.Layout.{runIn}

@@ -2,7 +2,6 @@
 use borrow.Author.Needs.{needs}
 use lib.ListN.{length}
 use mathlib.Core.Path.{_≡_}
-use native.Mathlib.Omega.{arith}
 use Rattle.cabi.proofs.Parts.{run-laid}
 use Rattle.cabi.proofs.held.lay_run.Statement.{statement}
 use Rattle.cabi.proofs.held.lay_run.Tie as tie

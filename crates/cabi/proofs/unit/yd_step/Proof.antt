@@ -6,10 +6,11 @@ use borrow.Author.Tests.{not-true, not-false}
 use Rattle.machine.specs.declared.Answer.the-variants.{Did, Idle, Refused}
 use Rattle.sign.proofs.Stepping.{steppedOf}
 use Rattle.image.specs.Layout.{recordOf}
+use Rattle.image.proofs.Parts.{run-over}
 use Rattle.words.specs.Words.{wordsOf}
 use Rattle.words.proofs.Lays.{laid-none, told-room}
 use Rattle.cabi.proofs.Lays.{step-answers}
-use Rattle.cabi.proofs.Parts.{unframed-parts, stepped-parts, run-kept}
+use Rattle.cabi.proofs.Parts.{unframed-parts, stepped-parts}
 use Rattle.basis.proofs.Tests.{tests}
 use borrow.Author.Needs.{needs}
 use Rattle.cabi.proofs.unit.yd_step.Statement.{statement}
@@ -87,7 +88,7 @@ returns-4 c =
     let w = c .before .before .before .before .before .before .before .before .before .before .before .before .step .result in
     let big : length (a .image .now) ≡ 186 = c .before .before .before .before .before .before .before .before .before .before .before .before .before .before .before .before .before .before .before .before .if1 .left in
     let went = stepped-parts (a .image .now) (c .before .before .before .before .before .before .before .before .before .before .before .before .before .before .before .before .before .lent .result) (c .before .before .before .before .before .before .before .before .before .before .before .before .before .before .before .before .run-of .result) (c .before .before .before .before .before .before .before .before .before .before .before .before .before .before .before .collection-of .result) big (c .before .before .before .before .before .before .before .before .before .before .before .before .before .before .before .before .before .lent .ensures) (c .before .before .before .before .before .before .before .before .before .before .before .before .before .before .before .before .run-of .ensures) (c .before .before .before .before .before .before .before .before .before .before .before .before .before .before .before .collection-of .ensures) _ w (c .before .before .before .before .before .before .before .before .before .before .before .before .before .before .framed .ensures) (not-false _ (c .before .before .before .before .before .before .before .before .before .before .before .before .before .if3 .left)) (c .before .before .before .before .before .before .before .before .before .before .before .before .step .ensures) in
-    step-answers (a .image .now) (a .answer .now) s (steppedOf s w) (Did (c .before .before .before .before .before .before .before .before .before .said .given .0 .0)) big (c .before .before .before .before .before .before .before .before .before .before .before .before .before .before .before .before .before .before .before .if2 .left) refl went (c .before .before .before .before .before .before .before .before .before .said .given .1) (c .before .before .lay-run .ensures ∙ run-kept (a .image .now) (w .run) big) (c .before .before .before .before .before .before .lay-performed .ensures)
+    step-answers (a .image .now) (a .answer .now) s (steppedOf s w) (Did (c .before .before .before .before .before .before .before .before .before .said .given .0 .0)) big (c .before .before .before .before .before .before .before .before .before .before .before .before .before .before .before .before .before .before .before .if2 .left) refl went (c .before .before .before .before .before .before .before .before .before .said .given .1) (c .before .before .lay-run .ensures ∙ run-over (a .image .now) (w .run) big) (c .before .before .before .before .before .before .lay-performed .ensures)
 
 same-length-4 : tie.Need-same-length-4
 same-length-4 c = search needs
@@ -102,7 +103,7 @@ returns-5 c =
     let w = c .before .before .before .before .before .before .before .before .before .before .before .step .result in
     let big : length (a .image .now) ≡ 186 = c .before .before .before .before .before .before .before .before .before .before .before .before .before .before .before .before .before .before .before .if1 .left in
     let went = stepped-parts (a .image .now) (c .before .before .before .before .before .before .before .before .before .before .before .before .before .before .before .before .lent .result) (c .before .before .before .before .before .before .before .before .before .before .before .before .before .before .before .run-of .result) (c .before .before .before .before .before .before .before .before .before .before .before .before .before .before .collection-of .result) big (c .before .before .before .before .before .before .before .before .before .before .before .before .before .before .before .before .lent .ensures) (c .before .before .before .before .before .before .before .before .before .before .before .before .before .before .before .run-of .ensures) (c .before .before .before .before .before .before .before .before .before .before .before .before .before .before .collection-of .ensures) _ w (c .before .before .before .before .before .before .before .before .before .before .before .before .before .framed .ensures) (not-false _ (c .before .before .before .before .before .before .before .before .before .before .before .before .if3 .left)) (c .before .before .before .before .before .before .before .before .before .before .before .step .ensures) in
-    step-answers (a .image .now) (a .answer .now) s (steppedOf s w) Idle big (c .before .before .before .before .before .before .before .before .before .before .before .before .before .before .before .before .before .before .if2 .left) refl went (c .before .before .before .before .before .before .before .before .enum-told .given .1) (c .before .before .lay-run2 .ensures ∙ run-kept (a .image .now) (w .run) big) (c .before .before .before .before .before .before .lay-idle .ensures)
+    step-answers (a .image .now) (a .answer .now) s (steppedOf s w) Idle big (c .before .before .before .before .before .before .before .before .before .before .before .before .before .before .before .before .before .before .if2 .left) refl went (c .before .before .before .before .before .before .before .before .enum-told .given .1) (c .before .before .lay-run2 .ensures ∙ run-over (a .image .now) (w .run) big) (c .before .before .before .before .before .before .lay-idle .ensures)
 
 same-length-6 : tie.Need-same-length-6
 same-length-6 c = search needs

@@ -1,13 +1,12 @@
 -- `slots` tests slot after slot: what is left of them decides.
-use Rattle.basis.proofs.Tests.{tests}
 use borrow.Author.Needs.{needs}
-use Rattle.collect.proofs.Turns.{rule-most, part-length, slot-cut, slot-wrong, slot-unclean, slot-next, slots-past}
+use Rattle.collect.proofs.Turns.{rule-most, slot-length, slot-cut, slot-wrong, slot-unclean, slot-next, slots-past}
 use Rattle.collect.specs.Slots.{slotsOf}
 use borrow.Author.Tests.{not-true, not-false}
 use lib.ListN.{length, getD, drop}
 use native.Mathlib.Omega.{arith}
 use Prim.Native.Nat.{_-_, _*_, _≤_}
-use mathlib.Core.Path.{_≡_, refl, sym, ap, _∙_}
+use mathlib.Core.Path.{_≡_, sym, _∙_}
 use Rattle.collect.proofs.Collection.slots.Statement.{statement}
 use Rattle.collect.proofs.Collection.slots.Tie as tie
 
@@ -56,7 +55,7 @@ unused-requires c κs =
     let a = c .before .before .before .before .before .before .before .before .args .self in
     let l = c .before .before .before .before .before .loop in
     let r : length (a .room) ≡ 84 = search needs in
-    part-length (a .room) (l .i) (omega arith)
+    slot-length (a .room) (l .i) (omega arith)
 
 returns-2 : tie.Need-returns-2 Inv-loop μ-loop
 returns-2 c =

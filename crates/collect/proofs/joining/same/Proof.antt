@@ -5,7 +5,7 @@ use Rattle.collect.proofs.Equal.{same-next, same-not, same-past, same-l
 use Rattle.collect.specs.Slots.{sameOf}
 use lib.ListN.{length, drop}
 use Prim.Native.Nat.{_-_, _≤_}
-use mathlib.Core.Path.{_≡_, refl, sym, ap, _∙_}
+use mathlib.Core.Path.{_≡_, sym, _∙_}
 use Rattle.collect.proofs.joining.same.Statement.{statement}
 use Rattle.collect.proofs.joining.same.Tie as tie
 

@@ -5,7 +5,7 @@ use Rattle.collect.specs.Slots.{heldOf}
 use lib.ListN.{length, getD, drop}
 use native.Mathlib.Omega.{arith}
 use Prim.Native.Nat.{_+_, _-_, _≤_}
-use mathlib.Core.Path.{_≡_, refl, sym, ap, _∙_}
+use mathlib.Core.Path.{_≡_}
 use Rattle.collect.proofs.slots.held.Statement.{statement}
 use Rattle.collect.proofs.slots.held.Tie as tie
 

@@ -1,8 +1,8 @@
 -- `unused` has nothing behind the data of a full slot.
 use Prim.Native.Nat.{_≤_}
-use mathlib.Core.Path.{_≡_, sym, ap, _∙_}
+use mathlib.Core.Path.{sym, ap}
 use native.Mathlib.Omega.{arith}
-use lib.ListN.{length, drop, drop-of-length-le}
+use lib.ListN.{length, drop-of-length-le}
 use Rattle.machine.specs.Sound.{zerosOf}
 use borrow.Author.Needs.{needs}
 use Rattle.collect.proofs.slots.unused.Statement.{statement}

@@ -5,7 +5,7 @@ use Rattle.hear.specs.Join.{stayOf, countOf}
 use mathlib.Core.Bool.{true, false}
 use lib.ListN.{length}
 use native.Mathlib.Omega.{arith}
-use mathlib.Core.Path.{_≡_, refl, sym, ap, _∙_}
+use mathlib.Core.Path.{_≡_}
 use borrow.Author.Needs.{needs}
 use Rattle.hear.proofs.join.goes_into.Statement.{statement}
 use Rattle.hear.proofs.join.goes_into.Tie as tie

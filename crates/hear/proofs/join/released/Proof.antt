@@ -1,12 +1,10 @@
 -- `released` takes the room as it stands: of a whole collection it is the joined data with zeros behind.
-use Rattle.collect.specs.Slots.{joinedOf}
-use Rattle.collect.specs.declared.Collection.{Collection}
 use Rattle.hear.proofs.Places.{whole-len, whole-size, whole-body, whole-heard}
 use Rattle.judge.specs.Verdict.{judgeOf}
 use lib.Seq.{length-take-le}
 use lib.ListN.{length}
 use native.Mathlib.Omega.{arith}
-use mathlib.Core.Path.{_≡_, refl, sym, ap, _∙_}
+use mathlib.Core.Path.{_≡_, sym, ap, _∙_}
 use borrow.Author.Needs.{needs}
 use Rattle.hear.proofs.join.released.Statement.{statement}
 use Rattle.hear.proofs.join.released.Tie as tie

@@ -3,7 +3,8 @@ use borrow.Author.Needs.{needs}
 use native.Mathlib.Omega.{arith}
 use lib.ListN.{length, take, drop}
 use mathlib.Core.Path.{_≡_}
-use Rattle.image.proofs.Copies.{filled, part-length}
+use Rattle.basis.proofs.Bytes.{cut-length}
+use Rattle.image.proofs.Copies.{filled}
 use Rattle.image.proofs.layout.collection_of.Statement.{statement}
 use Rattle.image.proofs.layout.collection_of.Tie as tie
 
@@ -48,8 +49,8 @@ returns c =
     let i = c .before .before .before .before .before .before .before .before .before .before .args .t1 in
     let size : length i ≡ 186 = search (needs, c .before .before .before .before .before .before .before .before .before .before .good .0) in
     rw (
-      filled (take 6 (drop 3 i)) _ _ (part-length i 3 6 (omega arith)) (c .before .before .before .before .before .before .copy .ensures .1),
-      filled (take 84 (drop 9 i)) _ _ (part-length i 9 84 (omega arith)) (c .before .copy2 .ensures .1),
+      filled (take 6 (drop 3 i)) _ _ (cut-length i 3 6 (omega arith)) (c .before .before .before .before .before .before .copy .ensures .1),
+      filled (take 84 (drop 9 i)) _ _ (cut-length i 9 84 (omega arith)) (c .before .copy2 .ensures .1),
     )
 
 pub collection-of-spec : {M : Type 1} → statement M

@@ -3,7 +3,8 @@ use borrow.Author.Needs.{needs}
 use native.Mathlib.Omega.{arith}
 use lib.ListN.{length, take, drop}
 use mathlib.Core.Path.{_≡_}
-use Rattle.image.proofs.Copies.{filled, part-length}
+use Rattle.basis.proofs.Bytes.{cut-length}
+use Rattle.image.proofs.Copies.{filled}
 use Rattle.image.proofs.layout.run_of.Statement.{statement}
 use Rattle.image.proofs.layout.run_of.Tie as tie
 
@@ -62,7 +63,7 @@ returns : tie.Need-returns
 returns c =
     let i = c .before .before .before .before .before .args .t1 in
     let size : length i ≡ 186 = search (needs, c .before .before .before .before .before .good .0) in
-    rw (filled (take 84 (drop 93 i)) _ _ (part-length i 93 84 (omega arith)) (c .before .copy .ensures .1))
+    rw (filled (take 84 (drop 93 i)) _ _ (cut-length i 93 84 (omega arith)) (c .before .copy .ensures .1))
 
 pub run-of-spec : {M : Type 1} → statement M
 run-of-spec =

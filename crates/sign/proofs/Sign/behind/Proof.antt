@@ -1,8 +1,6 @@
 -- `behind` goes by the outcome; what is released is all of a whole collection.
 use Rattle.basis.proofs.Tests.{tests}
-use mathlib.Core.Path.{_≡_, sym, ap, _∙_}
-use Prim.Native.Nat.{ℕ}
-use lib.ListN.{length}
+use mathlib.Core.Path.{ap}
 use borrow.Author.Needs.{needs}
 use Rattle.hear.specs.declared.Heard.{Heard}
 use Rattle.sign.proofs.Releases.{whole-verdict}

@@ -8,7 +8,7 @@ use lib.ListN.{length}
 use Prim.Native.Nat.{_≤_}
 use native.Mathlib.Omega.{arith}
 use borrow.Author.Tests.{not-true, not-false}
-use mathlib.Core.Path.{_≡_, refl, sym, ap, _∙_}
+use mathlib.Core.Path.{_≡_, sym, _∙_}
 use borrow.Author.Needs.{needs}
 use Rattle.sign.proofs.Sign.copy_body.Statement.{statement}
 use Rattle.sign.proofs.Sign.copy_body.Tie as tie

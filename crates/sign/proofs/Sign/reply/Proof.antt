@@ -2,9 +2,8 @@
 use Rattle.sign.specs.Tell.{saysOf}
 use Rattle.sign.proofs.Tells.{unsound-tells, reply-tells}
 use Rattle.sign.proofs.Sounds.{sound-parts}
-use Rattle.sign.specs.Sound.{soundOf}
 use borrow.Author.Tests.{not-true, not-false}
-use mathlib.Core.Path.{_≡_, refl, sym, ap, _∙_}
+use mathlib.Core.Path.{sym, _∙_}
 use borrow.Author.Needs.{needs}
 use Rattle.sign.proofs.Sign.reply.Statement.{statement}
 use Rattle.sign.proofs.Sign.reply.Tie as tie

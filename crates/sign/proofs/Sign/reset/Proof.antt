@@ -2,7 +2,7 @@
 use Rattle.basis.proofs.Tests.{tests}
 use Rattle.sign.specs.Reset.{clearedOf}
 use borrow.Author.Tests.{not-true, not-false}
-use mathlib.Core.Path.{_≡_, refl, sym, ap, _∙_}
+use mathlib.Core.Path.{sym, _∙_}
 use borrow.Author.Needs.{needs}
 use Rattle.sign.proofs.Sign.reset.Statement.{statement}
 use Rattle.sign.proofs.Sign.reset.Tie as tie

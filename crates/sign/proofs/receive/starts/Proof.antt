@@ -1,7 +1,4 @@
 -- `starts` goes by the verdict.
-use Rattle.sign.specs.Join.{startsOf, startOf}
-use Rattle.judge.specs.declared.Verdict.{Verdict}
-use mathlib.Core.Path.{_≡_, refl, sym, ap, _∙_}
 use Rattle.basis.proofs.Tests.{tests}
 use borrow.Author.Needs.{needs}
 use Rattle.sign.proofs.receive.starts.Statement.{statement}

@@ -1,5 +1,4 @@
 -- `fresh` holds nothing and is Ready.
-use Rattle.sign.specs.declared.Sign.{Sign}
 use Rattle.sign.specs.Reset.{freshOf, startSettings}
 use Rattle.machine.specs.Step.{readyOf}
 use Rattle.collect.specs.declared.Collection.{Collection}

@@ -1,14 +1,13 @@
 // The calls for C: numbers and lent bytes, one function for each public call, as include/yurodekapi.h describes them.
 // No call has a `requires`: each answers for any numbers and any bytes. An image of another size (251) or an answer that is too short
-// (252) is refused before all else, and a refused call changes no lent byte. What an answer is told as stands in the crate `words`.
-//   held   the record in a lent image, and its parts laid over one
-//   heard  what was heard of bytes, laid into an image and an answer   01, "Joining"
-//   wire   packets and replies, read and written      01, "The packet"
-//   line   a body judged and forecast                 01, "The program", "One step, and what it costs"
-//   unit   the sign over its image                    01, "Joining", "One step, and what it costs"
-mod heard;
-mod held;
+// (252) is refused before all else, and a refused call changes no lent byte. What an answer is told as stands in the crates `words` and
+// `answers`, what a call leaves in an image in `held`.
+//   loaded  the record in a lent image
+//   wire    packets and replies, read and written      01, "The packet"
+//   line    a body judged and forecast                 01, "The program", "One step, and what it costs"
+//   unit    the sign over its image                    01, "Joining", "One step, and what it costs"
 mod line;
+mod loaded;
 mod unit;
 mod wire;
 

@@ -1,20 +1,17 @@
 // The sign for C, over an image of its record. Answers to 01, "Joining", "One step, and what it costs", and to 16 and 34.
-use crate::heard::lay_heard;
-use crate::held::SIZE;
-use crate::held::lay_run;
-use crate::held::lent;
-use crate::held::load;
-use crate::held::store;
-use hear::Outcome;
+use crate::loaded::lent;
+use crate::loaded::load;
 use hear::framed;
 use hear::hear;
+use held::SIZE;
+use held::lay_cleared;
+use held::lay_heard;
+use held::lay_sign;
+use held::lay_stepped;
 use image::collection_of;
 use image::run_of;
-use machine::Answer;
 use repeater::shows;
 use sign::Sign;
-use words::lay_idle;
-use words::lay_performed;
 use words::tell_written;
 ghost use mathlib.Core.Path.{_≡_};
 ghost use mathlib.Core.Bool.{not};
@@ -26,7 +23,8 @@ ghost use Rattle.image.specs.Layout.{recordOf};
 ghost use Rattle.machine.specs.Sound.{bodyOf};
 ghost use Rattle.repeater.specs.Repeat.{withinOf};
 ghost use Rattle.sign.specs.Tell.{saysOf};
-ghost use Rattle.cabi.specs.Calls.{Tells, imageRow, powerImage, resetNo, resetImage, receiveNo, receiveImage, receiveAnswer, stepNo, stepImage, stepAnswer, imageRows};
+ghost use Rattle.held.specs.Laid.{imageRow};
+ghost use Rattle.cabi.specs.Calls.{Tells, powerImage, resetNo, resetImage, receiveNo, receiveImage, receiveAnswer, stepNo, stepImage, stepAnswer, imageRows};
 
 // The image of a sign that was just switched on.
 #[no_mangle]
@@ -34,12 +32,8 @@ pub extern "C" fn yd_power_on(image: &mut [u8]) -> u32
     ensures result { λ r. ⌜ r ≡ firstOf (imageRow (now (image .entry)) ∷ []) ⌝ }
     ensures kept { λ _. ⌜ now (image .exit) ≡ powerImage (now (image .entry)) ⌝ }
 {
-    if image.len() != SIZE {
-        return 251;
-    }
     let sign = Sign::power_on();
-    store(sign, image);
-    0
+    lay_sign(sign, image)
 }
 
 // The image behind a reset.
@@ -53,13 +47,7 @@ pub extern "C" fn yd_reset(image: &mut [u8]) -> u32
     }
     let sign = load(image);
     let cleared = sign.reset();
-    let next = cleared.sign;
-    let outcome = cleared.outcome;
-    if let Outcome::Refused(n) = outcome {
-        return n as u32;
-    }
-    store(next, image);
-    0
+    lay_cleared(cleared, image)
 }
 
 // What bytes off the line do to the sign.
@@ -105,21 +93,7 @@ pub extern "C" fn yd_step(image: &mut [u8], answer: &mut [u8]) -> u32
         return 16;
     }
     let went = run.step();
-    let next = went.run;
-    let said = went.answer;
-    match said {
-        Answer::Did(performed) => {
-            lay_performed(performed, answer);
-            lay_run(next, image);
-            0
-        }
-        Answer::Idle => {
-            lay_idle(answer);
-            lay_run(next, image);
-            0
-        }
-        Answer::Refused(n) => n as u32,
-    }
+    lay_stepped(went, image, answer)
 }
 
 // Lays the reply to a query; AUX reads S if `aux` isn't 0.

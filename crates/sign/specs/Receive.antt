@@ -2,7 +2,6 @@
 use Prim.Native.Nat.{ℕ}
 use mathlib.Core.List.{List}
 use Rattle.basis.specs.Choice.{when}
-use Rattle.judge.specs.Verdict.{noOf, noAt}
 use Rattle.reader.specs.Read.{readOf}
 use Rattle.reader.specs.declared.read.Reading.{Reading}
 use Rattle.collect.specs.declared.Collection.{Collection}
@@ -39,20 +38,3 @@ numberOf Repeat = 0
 numberOf Stored = 0
 numberOf (Released v) = 0
 numberOf (Refused n) = n
-
--- the program's refusal that a Released names, 0 where the body is accepted, and its place
-abbrev pub programOf : Outcome → ℕ
-programOf Query = 0
-programOf Reset = 0
-programOf Repeat = 0
-programOf Stored = 0
-programOf (Released v) = noOf v
-programOf (Refused n) = 0
-
-abbrev pub placeOf : Outcome → ℕ
-placeOf Query = 0
-placeOf Reset = 0
-placeOf Repeat = 0
-placeOf Stored = 0
-placeOf (Released v) = noAt v
-placeOf (Refused n) = 0

@@ -9,15 +9,13 @@ use lib.ListN.{length, take, drop, getD}
 use lib.Seq.{take-all, take-suc, length-take-le}
 use lib.Dec.{ltb}
 use mir.Val.{boolByte}
-use borrow.Author.Tests.{le-ltb}
+use borrow.Author.Tests.{lt-ltb, le-ltb}
 use borrow.Rule.Slice.PartMut.{putMid}
 use Rattle.basis.specs.Bytes.{laid}
-use Rattle.basis.proofs.Choices.{when-false}
+use Rattle.basis.proofs.Choices.{when-true, when-false}
 use Rattle.basis.proofs.Laid.{laid-lent, length-laid}
-use Rattle.sign.specs.Receive.{programOf, placeOf}
-use Rattle.hear.specs.declared.Outcome.{Outcome}
 use Rattle.words.specs.Words.{wordOf, wordsOf, resultOf}
-use Rattle.words.specs.Told.{answerRow, firstOr, toldIn, flagOf, outcomeOf, receivedBytes}
+use Rattle.words.specs.Told.{answerRow, firstOr, toldIn, flagOf}
 
 -- a word is four bytes
 pub words-length : (ws : List ℕ) → length (wordsOf ws) ≡ 4 * length ws
@@ -63,50 +61,38 @@ next-word ws out f y i below room ef ey =
     let most : length (wordsOf (take (i + 1) ws)) ≤ length out = omega (arith, words-length (take (i + 1) ws), length-take-le (i + 1) ws next) in
     (now, ap length now ∙ length-laid (wordsOf (take (i + 1) ws)) out most)
 
--- all of them
-pub all-words : (ws out f : List ℕ) (i : ℕ) → length ws ≤ i → f ≡ laid (wordsOf (take i ws)) out → f ≡ laid (wordsOf ws) out
-all-words ws out f i all ef = ef ∙ ap (λ (p : List ℕ). laid (wordsOf p) out) (take-all i ws all)
-
 -- an answer with room is told
 pub told-room : (size : ℕ) (bytes answer : List ℕ) → size ≤ length answer → laid bytes answer ≡ toldIn size bytes answer
 told-room size bytes answer room = sym (when-false (ltb (length answer) size) answer (laid bytes answer) (le-ltb (length answer) size room))
 
--- nothing laid is nothing changed
-pub laid-none : (o : List ℕ) → o ≡ laid (wordsOf []) o
+-- all of them
+pub all-words : (ws out f : List ℕ) (i : ℕ) → length ws ≤ i → length ws ≤ length out / 4 → f ≡ laid (wordsOf (take i ws)) out
+    → f ≡ toldIn (4 * length ws) (wordsOf ws) out
+all-words ws out f i all room ef =
+    ef ∙ ap (λ (p : List ℕ). laid (wordsOf p) out) (take-all i ws all) ∙ told-room (4 * length ws) (wordsOf ws) out (omega arith)
+
+-- nothing told is nothing changed
+pub told-none : (size : ℕ) (o : List ℕ) → size ≤ length o → o ≡ toldIn size (wordsOf []) o
 unfolding laid wordsOf
-laid-none o = refl
+told-none size o room = told-room size (wordsOf []) o room
+
+-- nothing is told without room, counted by words
+pub told-short : (n : ℕ) (bytes answer : List ℕ) → length answer / 4 < n → answer ≡ toldIn (4 * n) bytes answer
+told-short n bytes answer few = sym (when-true (ltb (length answer) (4 * n)) answer (laid bytes answer) (lt-ltb (length answer) (4 * n) (omega arith)))
 
 -- what is told of x, where x is what the call answers and the answer has room for it
 pub answers : {X : Type 0} (number : X → ℕ) (words : X → List ℕ) (size : ℕ) (answer : List ℕ) {after : List ℕ} (x y : X) → size ≤ length answer
-    → x ≡ y → after ≡ laid (wordsOf (words x)) answer
+    → x ≡ y → after ≡ toldIn size (wordsOf (words x)) answer
     → (number x ≡ firstOr (answerRow size answer ∷ []) (number y)) × (after ≡ toldIn size (wordsOf (words y)) answer)
 answers {X} number words size answer x y room e h =
     let long : ltb (length answer) size ≡ false = le-ltb (length answer) size room in (
       ap number e ∙ sym (when-false (ltb (length answer) size) 252 (number y) long),
-      h ∙ ap (λ (z : X). laid (wordsOf (words z)) answer) e ∙ told-room size (wordsOf (words y)) answer room,
+      h ∙ ap (λ (z : X). toldIn size (wordsOf (words z)) answer) e,
     )
-
--- four words, and a body copied behind them
-pub received-lays : (o : Outcome) (body : List ℕ) (len : ℕ) (answer f y : List ℕ) (p q r : ℕ) → 100 ≤ length answer → p ≡ outcomeOf o → q ≡ programOf o
-    → r ≡ placeOf o → f ≡ laid (wordsOf (p ∷ q ∷ r ∷ len ∷ [])) answer
-    → y ≡ take (length body) body ++ drop (length body) (take (length f - 16) (drop 16 f))
-    → putMid 16 (length f - 16) f y ≡ toldIn 100 (receivedBytes o body len) answer
-unfolding laid
-received-lays o body len answer f y p q r room ep eq er ef ey =
-    let ws = p ∷ q ∷ r ∷ len ∷ [] in
-    let us = outcomeOf o ∷ programOf o ∷ placeOf o ∷ len ∷ [] in
-    let same : ws ≡ us = rw (ep, eq, er) in
-    let whole : length body ≤ length body = omega arith in
-    let at : 16 ≡ length (wordsOf ws) = sym (words-length ws) in
-    let fits : length (wordsOf ws) ≤ length answer = omega arith in
-    laid-lent 16 (wordsOf ws) body answer f y at fits ef
-    (ey ∙ ap (λ (b : List ℕ). b ++ drop (length body) (take (length f - 16) (drop 16 f))) (take-all (length body) body whole))
-    ∙ ap (λ (v : List ℕ). laid (wordsOf v ++ body) answer) same
-    ∙ told-room 100 (receivedBytes o body len) answer room
 
 -- Bools laid as bytes
 pub heard-lays : (last : ℕ) (busy sink : Bool) (answer : List ℕ)
-    → laid (wordsOf (last ∷ boolByte busy ∷ boolByte sink ∷ [])) answer ≡ laid (wordsOf (last ∷ flagOf busy ∷ flagOf sink ∷ [])) answer
+    → toldIn 12 (wordsOf (last ∷ boolByte busy ∷ boolByte sink ∷ [])) answer ≡ toldIn 12 (wordsOf (last ∷ flagOf busy ∷ flagOf sink ∷ [])) answer
 heard-lays last true true answer = refl
 heard-lays last true false answer = refl
 heard-lays last false true answer = refl

@@ -1,7 +1,7 @@
 -- What each answer is told as: its words at the front of a lent buffer, and its number for no.
 use Prim.Native.Nat.{ℕ}
 use mathlib.Core.Bool.{Bool}
-use mathlib.Core.List.{List, [], _∷_, _++_}
+use mathlib.Core.List.{List, [], _∷_}
 use lib.Dec.{ltb}
 use lib.ListN.{length}
 use Rattle.basis.specs.Bytes.{laid}
@@ -11,19 +11,11 @@ use Rattle.reader.specs.declared.read.Reading.{Reading}
 use Rattle.reader.specs.declared.read.Reading.the-variants.{Query as QueryRead, Reset as ResetRead, Normal, Refused as Unread}
 use Rattle.reply.specs.declared.Status.{Status}
 use Rattle.reply.specs.declared.Status.the-variants.{Heard, Refused as Unheard}
-use Rattle.program.specs.declared.Kind.{Kind}
-use Rattle.program.specs.declared.Kind.the-variants.{II, IA, IB, S, L, E, F, R, XS, XF, P, Scans, W, XD, XB, Y}
-use Rattle.perform.specs.declared.price.Performed.{Performed}
 use Rattle.judge.specs.declared.Verdict.{Verdict}
 use Rattle.judge.specs.declared.Verdict.the-variants.{Finite, Endless, Refused as NoProgram}
-use Rattle.machine.specs.declared.Answer.{Answer}
-use Rattle.machine.specs.declared.Answer.the-variants.{Did, Idle, Refused as NoStep}
 use Rattle.reckon.specs.declared.reckon.Foretold.{Foretold}
 use Rattle.reckon.specs.declared.reckon.Foretold.the-variants.{Ends, Endless as Never, Refused as NoForecast}
-use Rattle.sign.specs.Receive.{programOf, placeOf}
-use Rattle.hear.specs.declared.Outcome.{Outcome}
-use Rattle.hear.specs.declared.Outcome.the-variants.{Query, Reset, Repeat, Stored, Released, Refused}
-use Rattle.words.specs.Words.{resultOf, wordsOf}
+use Rattle.words.specs.Words.{resultOf}
 
 -- 252: an answer shorter than what is to be told
 abbrev pub answerRow : ℕ → List ℕ → Row
@@ -70,44 +62,3 @@ abbrev pub foretoldResult : Foretold → ℕ
 foretoldResult (Ends t) = resultOf 0 0
 foretoldResult Never = resultOf 0 0
 foretoldResult (NoForecast n p) = resultOf n p
-
--- the outcome of a receive as a number, 0 where it is refused
-abbrev pub outcomeOf : Outcome → ℕ
-outcomeOf Query = 1
-outcomeOf Reset = 2
-outcomeOf Repeat = 3
-outcomeOf Stored = 4
-outcomeOf (Released v) = 5
-outcomeOf (Refused n) = 0
-
--- a receive: outcome, the released program's refusal and its place, the body's length, and the body
-abbrev pub receivedBytes : Outcome → (body : List ℕ) → (len : ℕ) → List ℕ
-receivedBytes o body len = wordsOf (outcomeOf o ∷ programOf o ∷ placeOf o ∷ len ∷ []) ++ body
-
--- the sixteen commands by number, in the order of 01's table
-abbrev pub kindOf : Kind → ℕ
-kindOf II = 1
-kindOf IA = 2
-kindOf IB = 3
-kindOf S = 4
-kindOf L = 5
-kindOf E = 6
-kindOf F = 7
-kindOf R = 8
-kindOf XS = 9
-kindOf XF = 10
-kindOf P = 11
-kindOf Scans = 12
-kindOf W = 13
-kindOf XD = 14
-kindOf XB = 15
-kindOf Y = 16
-
--- a step: kind, number as written, text place and length, start column, scans, milliseconds; Idle is zeros
-abbrev pub performedWords : Performed → List ℕ
-performedWords x = kindOf (x .kind) ∷ x .number ∷ x .text ∷ x .len ∷ x .column ∷ x .scans .0 ∷ x .millis .0 ∷ []
-
-abbrev pub stepWords : Answer → List ℕ
-stepWords (Did x) = performedWords x
-stepWords Idle = 0 ∷ 0 ∷ 0 ∷ 0 ∷ 0 ∷ 0 ∷ 0 ∷ []
-stepWords (NoStep n) = []

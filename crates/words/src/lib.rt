@@ -4,18 +4,15 @@
 //   results  the number for no with a value above it, and what a writer wrote
 //   wire     packets and replies that were read      01, "The packet"
 //   line     a body that was judged or forecast      01, "The program", "One step, and what it costs"
-//   unit     a sign that received or stepped         01, "Joining", "One step, and what it costs"
+// What a sign answers is told by the crate `answers`.
 mod laying;
 mod line;
 mod results;
-mod unit;
 mod wire;
 
+pub use laying::lay;
 pub use line::tell_forecast;
 pub use line::tell_verdict;
 pub use results::tell_written;
-pub use unit::lay_idle;
-pub use unit::lay_performed;
-pub use unit::lay_received;
 pub use wire::tell_reading;
 pub use wire::tell_status;

@@ -2,7 +2,6 @@
 use mathlib.Core.Path.{_≡_, refl, sym, subst, _∙_}
 use lib.ListN.{length, getD}
 use borrow.Author.Tests.{not-true, not-false}
-use borrow.Author.Needs.{needs}
 use Rattle.basis.specs.Bytes.{laid}
 use Rattle.hear.specs.Join.{Sure}
 use Rattle.hear.specs.declared.Outcome.the-variants.{Refused}
@@ -11,10 +10,12 @@ use Rattle.sign.specs.Join.{staysOf}
 use Rattle.sign.specs.Receive.{behindOf, receiveOf, numberOf}
 use Rattle.sign.proofs.Joining.{received-is, unsound-run}
 use Rattle.image.specs.Layout.{imageOf, recordOf}
-use Rattle.cabi.specs.Calls.{keptOf}
-use Rattle.cabi.proofs.Lays.{bytesOf, receive-answers, unsized, short}
+use Rattle.held.specs.Laid.{keptOf}
+use Rattle.held.proofs.Lays.{unsized, short}
+use Rattle.cabi.proofs.Lays.{bytesOf, receive-answers, no-answers}
 use Rattle.cabi.proofs.Parts.{heard-parts, run-part, run-here}
-use Rattle.cabi.proofs.Receives.{behind-outcome}
+use Rattle.cabi.proofs.Receives.{heard-answers}
+use borrow.Author.Needs.{needs}
 use Rattle.cabi.proofs.unit.yd_receive.Statement.{statement}
 use Rattle.cabi.proofs.unit.yd_receive.Tie as tie
 
@@ -22,13 +23,13 @@ returns : tie.Need-returns
 returns c =
     let a = c .before .before .before .before .args in
     let y = receiveOf (recordOf (a .image .now)) (a .mid) (a .bytes .now) in
-    unsized 100 (numberOf (y .outcome)) (a .image .now) (a .answer .now) (keptOf (y .outcome) (imageOf (y .sign)) (a .image .now)) (keptOf (y .outcome) (laid (bytesOf y) (a .answer .now)) (a .answer .now)) (search needs)
+    unsized 100 (numberOf (y .outcome)) (a .image .now) (a .answer .now) (keptOf (y .outcome) (imageOf (y .sign)) (a .image .now)) (keptOf (y .outcome) (laid (bytesOf y) (a .answer .now)) (a .answer .now)) (c .if1 .taken)
 
 returns-2 : tie.Need-returns-2
 returns-2 c =
     let a = c .before .before .before .before .before .args in
     let y = receiveOf (recordOf (a .image .now)) (a .mid) (a .bytes .now) in
-    short 100 (numberOf (y .outcome)) (a .image .now) (a .answer .now) (keptOf (y .outcome) (imageOf (y .sign)) (a .image .now)) (keptOf (y .outcome) (laid (bytesOf y) (a .answer .now)) (a .answer .now)) (search needs) (search needs)
+    short 100 (numberOf (y .outcome)) (a .image .now) (a .answer .now) (keptOf (y .outcome) (imageOf (y .sign)) (a .image .now)) (keptOf (y .outcome) (laid (bytesOf y) (a .answer .now)) (a .answer .now)) (c .before .if1 .left) (c .if2 .taken)
 
 lent-requires : tie.Need-lent-requires
 lent-requires c κs = search needs
@@ -50,9 +51,8 @@ unfolding staysOf
 returns-3 c =
     let a = c .before .before .before .before .before .before .before .before .before .before .before .args in
     let s = recordOf (a .image .now) in
-    let big : length (a .image .now) ≡ 186 = search needs in
-    let no = unsound-run s (a .mid) (a .bytes .now) (sym (run-part (a .image .now) (c .before .before .before .before .lent .result) (c .before .before .before .run-of .result) (c .before .before .collection-of .result) big (c .before .before .before .before .lent .ensures) (c .before .before .before .run-of .ensures) (c .before .before .collection-of .ensures) _ (c .before .sound .ensures)) ∙ not-true _ (c .if3 .taken)) in
-    receive-answers (a .image .now) (a .answer .now) (a .mid) (a .bytes .now) s (staysOf s (Refused 16)) (Refused 16) big (search needs) refl (sym no) refl refl refl
+    let no = unsound-run s (a .mid) (a .bytes .now) (sym (run-part (a .image .now) (c .before .before .before .before .lent .result) (c .before .before .before .run-of .result) (c .before .before .collection-of .result) (c .before .before .before .before .before .before .before .if1 .left) (c .before .before .before .before .lent .ensures) (c .before .before .before .run-of .ensures) (c .before .before .collection-of .ensures) _ (c .before .sound .ensures)) ∙ not-true _ (c .if3 .taken)) in
+    receive-answers (a .image .now) (a .answer .now) (a .mid) (a .bytes .now) (staysOf s (Refused 16)) (sym no) (no-answers 100 16 (a .image .now) (a .answer .now) (a .answer .now) (c .before .before .before .before .before .before .before .if1 .left) (c .before .before .before .before .before .before .if2 .left) refl)
 
 array-read-hear : tie.Need-array-read-hear
 array-read-hear c = search needs
@@ -61,14 +61,7 @@ hear-requires : tie.Need-hear-requires
 hear-requires c κs = search needs
 
 lay-heard-requires : tie.Need-lay-heard-requires
-lay-heard-requires c κs =
-    let a = c .before .before .before .before .before .before .before .before .before .before .before .before .before .before .args in
-    let big : length (a .image .now) ≡ 186 = search needs in
-    let k = c .before .before .before .before .before .collection-of .result in
-    let l : length (k .lens) ≡ 6 = search (needs, c .before .before .before .before .before .collection-of .ok) in
-    let r : length (k .room) ≡ 84 = search (needs, c .before .before .before .before .before .collection-of .ok) in
-    let sure = subst Sure (sym (c .before .before .hear .ensures)) (released-whole (getD (c .before .before .before .before .before .before .before .lent .result) 0 0) k (c .before .before .before .before .before .before .run-of .result .len) (a .mid) (a .bytes .now) l r) in
-    (big, (run-here (a .image .now) (c .before .before .before .before .before .before .before .lent .result) (c .before .before .before .before .before .before .run-of .result) (c .before .before .before .before .before .collection-of .result) big (c .before .before .before .before .before .before .before .lent .ensures) (c .before .before .before .before .before .before .run-of .ensures) (c .before .before .before .before .before .collection-of .ensures), sure))
+lay-heard-requires c κs = search needs
 
 same-length-2 : tie.Need-same-length-2
 same-length-2 c = search needs
@@ -79,20 +72,19 @@ same-length-3 c = search needs
 returns-4 : tie.Need-returns-4
 returns-4 c =
     let a = c .before .before .before .before .before .before .before .before .before .before .before .before .before .before .before .before .before .before .before .args in
-    let big : length (a .image .now) ≡ 186 = search needs in
     let s = recordOf (a .image .now) in
     let h = c .before .before .before .before .before .before .before .hear .result in
     let k = c .before .before .before .before .before .before .before .before .before .before .collection-of .result in
     let l : length (k .lens) ≡ 6 = search (needs, c .before .before .before .before .before .before .before .before .before .before .collection-of .ok) in
     let r : length (k .room) ≡ 84 = search (needs, c .before .before .before .before .before .before .before .before .before .before .collection-of .ok) in
+    let lh : length (h .collection .lens) ≡ 6 = search (needs, c .before .before .before .before .before .before .before .hear .ok) in
+    let rh : length (h .collection .room) ≡ 84 = search (needs, c .before .before .before .before .before .before .before .hear .ok) in
     let sure = subst Sure (sym (c .before .before .before .before .before .before .before .hear .ensures)) (released-whole (getD (c .before .before .before .before .before .before .before .before .before .before .before .before .lent .result) 0 0) k (c .before .before .before .before .before .before .before .before .before .before .before .run-of .result .len) (a .mid) (a .bytes .now) l r) in
-    let x = behindOf s (h .collection) (h .outcome) in
-    let sound = sym (run-part (a .image .now) (c .before .before .before .before .before .before .before .before .before .before .before .before .lent .result) (c .before .before .before .before .before .before .before .before .before .before .before .run-of .result) (c .before .before .before .before .before .before .before .before .before .before .collection-of .result) big (c .before .before .before .before .before .before .before .before .before .before .before .before .lent .ensures) (c .before .before .before .before .before .before .before .before .before .before .before .run-of .ensures) (c .before .before .before .before .before .before .before .before .before .before .collection-of .ensures) _ (c .before .before .before .before .before .before .before .before .before .sound .ensures)) ∙ not-false _ (c .before .before .before .before .before .before .before .before .if3 .left) in
-    let heard = heard-parts (a .image .now) (c .before .before .before .before .before .before .before .before .before .before .before .before .lent .result) (c .before .before .before .before .before .before .before .before .before .before .before .run-of .result) (c .before .before .before .before .before .before .before .before .before .before .collection-of .result) big (c .before .before .before .before .before .before .before .before .before .before .before .before .lent .ensures) (c .before .before .before .before .before .before .before .before .before .before .before .run-of .ensures) (c .before .before .before .before .before .before .before .before .before .before .collection-of .ensures) (a .mid) (a .bytes .now) h (c .before .before .before .before .before .before .before .hear .ensures) in
-    let t = receive-answers (a .image .now) (a .answer .now) (a .mid) (a .bytes .now) s x (h .outcome) big (search needs) refl (received-is s (a .mid) (a .bytes .now) h x sound heard refl) (behind-outcome s h sure)
-    (c .before .before .before .before .lay-heard .ensures .1 .0)
-    (c .before .before .before .before .lay-heard .ensures .1 .1) in
-    (c .before .before .before .before .lay-heard .ensures .0 ∙ t .0, t .1)
+    let sound = sym (run-part (a .image .now) (c .before .before .before .before .before .before .before .before .before .before .before .before .lent .result) (c .before .before .before .before .before .before .before .before .before .before .before .run-of .result) (c .before .before .before .before .before .before .before .before .before .before .collection-of .result) (c .before .before .before .before .before .before .before .before .before .before .before .before .before .before .before .if1 .left) (c .before .before .before .before .before .before .before .before .before .before .before .before .lent .ensures) (c .before .before .before .before .before .before .before .before .before .before .before .run-of .ensures) (c .before .before .before .before .before .before .before .before .before .before .collection-of .ensures) _ (c .before .before .before .before .before .before .before .before .before .sound .ensures)) ∙ not-false _ (c .before .before .before .before .before .before .before .before .if3 .left) in
+    let heard = heard-parts (a .image .now) (c .before .before .before .before .before .before .before .before .before .before .before .before .lent .result) (c .before .before .before .before .before .before .before .before .before .before .before .run-of .result) (c .before .before .before .before .before .before .before .before .before .before .collection-of .result) (c .before .before .before .before .before .before .before .before .before .before .before .before .before .before .before .if1 .left) (c .before .before .before .before .before .before .before .before .before .before .before .before .lent .ensures) (c .before .before .before .before .before .before .before .before .before .before .before .run-of .ensures) (c .before .before .before .before .before .before .before .before .before .before .collection-of .ensures) (a .mid) (a .bytes .now) h (c .before .before .before .before .before .before .before .hear .ensures) in
+    heard-answers h (c .before .before .before .before .before .before .before .before .before .before .before .run-of .result) (a .image .now) (a .answer .now) sure lh rh (c .before .before .before .before .before .before .before .before .before .before .before .before .before .before .before .if1 .left) (c .before .before .before .before .before .before .before .before .before .before .before .before .before .before .if2 .left) (run-here (a .image .now) (c .before .before .before .before .before .before .before .before .before .before .before .before .lent .result) (c .before .before .before .before .before .before .before .before .before .before .before .run-of .result) (c .before .before .before .before .before .before .before .before .before .before .collection-of .result) (c .before .before .before .before .before .before .before .before .before .before .before .before .before .before .before .if1 .left) (c .before .before .before .before .before .before .before .before .before .before .before .before .lent .ensures) (c .before .before .before .before .before .before .before .before .before .before .before .run-of .ensures) (c .before .before .before .before .before .before .before .before .before .before .collection-of .ensures)) (a .mid) (a .bytes .now)
+    (received-is s (a .mid) (a .bytes .now) h (behindOf s (h .collection) (h .outcome)) sound heard refl)
+    (c .before .before .before .before .lay-heard .ensures)
 
 pub yd-receive-spec : {M : Type 1} → statement M
 yd-receive-spec =

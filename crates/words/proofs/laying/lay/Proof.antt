@@ -5,7 +5,7 @@ use mathlib.Core.Path.{_≡_}
 use lib.ListN.{length, take}
 use Rattle.basis.specs.Bytes.{laid}
 use Rattle.words.specs.Words.{wordsOf}
-use Rattle.words.proofs.Lays.{next-word, all-words}
+use Rattle.words.proofs.Lays.{next-word, all-words, told-short}
 use Rattle.words.proofs.laying.lay.Statement.{statement}
 use Rattle.words.proofs.laying.lay.Tie as tie
 
@@ -14,6 +14,11 @@ Inv-loop words out₀ i₀ out i = (i ≤ length words) × ((out ≡ laid (words
 
 abbrev μ-loop : tie.MeasureT-loop
 μ-loop words out₀ i₀ out i = length words - i
+
+returns : tie.Need-returns Inv-loop μ-loop
+returns c =
+    let a = c .before .before .before .args in
+    told-short (length (a .words .now)) _ (a .out .now) (search needs)
 
 loop-holds : tie.Need-loop-holds Inv-loop μ-loop
 unfolding laid wordsOf
@@ -48,7 +53,7 @@ loop-less c = search needs
 
 loop-again : tie.Need-loop-again Inv-loop μ-loop
 loop-again c =
-    let a = c .before .before .before .before .before .before .before .before .before .args in
+    let a = c .before .before .before .before .before .before .before .before .before .before .args in
     let l = c .before .before .before .before .before .before .loop in (
       search needs,
       next-word (a .words .now) (a .out .now) (l .out) _ (l .i) (search needs) (search needs) (l .inv .1 .0) (c .before .before .put .ensures),
@@ -57,11 +62,11 @@ loop-again c =
 same-length : tie.Need-same-length Inv-loop μ-loop
 same-length c = search needs
 
-returns : tie.Need-returns Inv-loop μ-loop
-returns c =
-    let a = c .before .before .before .before .args in
+returns-2 : tie.Need-returns-2 Inv-loop μ-loop
+returns-2 c =
+    let a = c .before .before .before .before .before .args in
     let l = c .before .loop in
-    all-words (a .words .now) (a .out .now) (l .out) (l .i) (search needs) (l .inv .1 .0)
+    all-words (a .words .now) (a .out .now) (l .out) (l .i) (search needs) (search needs) (l .inv .1 .0)
 
 pub lay-spec : {M : Type 1} → statement M
 lay-spec =
@@ -69,6 +74,7 @@ lay-spec =
     (tie.spec
     Inv-loop
     μ-loop
+    returns
     loop-holds
     mul-at
     mul-put
@@ -81,4 +87,4 @@ lay-spec =
     loop-less
     loop-again
     same-length
-    returns)
+    returns-2)

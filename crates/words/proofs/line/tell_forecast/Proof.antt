@@ -2,7 +2,7 @@
 use mathlib.Core.Path.{sym, _∙_}
 use Rattle.reckon.specs.declared.reckon.Foretold.the-variants.{Ends, Endless, Refused}
 use Rattle.words.specs.Told.{foretoldResult, foretoldWords}
-use Rattle.words.proofs.Lays.{answers, laid-none}
+use Rattle.words.proofs.Lays.{answers, told-none}
 use Rattle.basis.proofs.Tests.{tests}
 use borrow.Author.Needs.{needs}
 use Rattle.words.proofs.line.tell_forecast.Statement.{statement}
@@ -64,7 +64,7 @@ returns-4 : tie.Need-returns-4
 returns-4 c =
     let g = c .before .before .foretold2 .given in
     let a = c .before .before .before .before .before .before .args in
-    let t = answers foretoldResult foretoldWords 16 (a .answer .now) (Refused (g .0 .0) (g .0 .1 .0)) (a .foretold) (search needs) (sym (g .1)) (laid-none (a .answer .now)) in
+    let t = answers foretoldResult foretoldWords 16 (a .answer .now) (Refused (g .0 .0) (g .0 .1 .0)) (a .foretold) (search needs) (sym (g .1)) (told-none _ (a .answer .now) (search needs)) in
     (c .result3 .ensures ∙ t .0, t .1)
 
 pub tell-forecast-spec : {M : Type 1} → statement M

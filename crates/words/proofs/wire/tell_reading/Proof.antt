@@ -4,7 +4,7 @@ use Rattle.reader.specs.Read.{toldOf}
 use Rattle.reader.specs.declared.read.Reading.{Reading}
 use Rattle.reader.specs.declared.read.Reading.the-variants.{Query, Reset, Normal, Refused}
 use Rattle.words.specs.Told.{readWords}
-use Rattle.words.proofs.Lays.{answers, laid-none}
+use Rattle.words.proofs.Lays.{answers, told-none}
 use Rattle.basis.proofs.Tests.{tests}
 use borrow.Author.Needs.{needs}
 use Rattle.words.proofs.wire.tell_reading.Statement.{statement}
@@ -84,7 +84,7 @@ returns-5 : tie.Need-returns-5
 returns-5 c =
     let g = c .before .reading2 .given in
     let a = c .before .before .before .before .before .args in
-    answers (λ (x : Reading). toldOf x .number) readWords 20 (a .answer .now) (Refused (g .0 .0)) (a .reading) (search needs) (sym (g .1)) (laid-none (a .answer .now))
+    answers (λ (x : Reading). toldOf x .number) readWords 20 (a .answer .now) (Refused (g .0 .0)) (a .reading) (search needs) (sym (g .1)) (told-none _ (a .answer .now) (search needs))
 
 pub tell-reading-spec : {M : Type 1} → statement M
 tell-reading-spec =

@@ -3,7 +3,7 @@ use mathlib.Core.Path.{sym, _∙_}
 use Rattle.reply.specs.Reply.{numberOf}
 use Rattle.reply.specs.declared.Status.the-variants.{Heard, Refused}
 use Rattle.words.specs.Told.{heardWords}
-use Rattle.words.proofs.Lays.{answers, laid-none, heard-lays}
+use Rattle.words.proofs.Lays.{answers, told-none, heard-lays}
 use Rattle.basis.proofs.Tests.{tests}
 use borrow.Author.Needs.{needs}
 use Rattle.words.proofs.wire.tell_status.Statement.{statement}
@@ -49,7 +49,7 @@ returns-3 : tie.Need-returns-3
 returns-3 c =
     let g = c .before .status2 .given in
     let a = c .before .before .before .before .before .args in
-    answers numberOf heardWords 12 (a .answer .now) (Refused (g .0 .0)) (a .status) (search needs) (sym (g .1)) (laid-none (a .answer .now))
+    answers numberOf heardWords 12 (a .answer .now) (Refused (g .0 .0)) (a .status) (search needs) (sym (g .1)) (told-none _ (a .answer .now) (search needs))
 
 pub tell-status-spec : {M : Type 1} → statement M
 tell-status-spec =

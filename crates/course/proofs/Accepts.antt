@@ -6,9 +6,9 @@ use mathlib.Core.Bool.{Bool, true, false}
 use mathlib.Core.Path.{_≡_, refl, sym, ap, _∙_}
 use native.Mathlib.Omega.{arith}
 use lib.ListN.{length}
-use Rattle.judge.specs.Token.{Act, Part, act, rep, close, forever, again, Tok, good, bad, sizeOf}
+use Rattle.loops.specs.Token.{Act, Part, act, rep, close, forever, again, Tok, good, bad, sizeOf}
 use Rattle.judge.specs.Verdict.{judge, endOf}
-use Rattle.judge.specs.declared.Open.{Open}
+use Rattle.loops.specs.declared.Open.{Open}
 use Rattle.judge.specs.declared.Verdict.{Verdict}
 use Rattle.judge.specs.declared.Verdict.the-variants.{Finite, Endless, Refused}
 use Rattle.course.specs.Tree.{Block, stop, one, loop, Ending, ends, starts, ever, Pending, behind, endless, Built, opened, built, buildOf, flat, flatEnd}

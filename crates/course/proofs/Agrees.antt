@@ -5,7 +5,7 @@ use Rattle.perform.specs.Price.{doingOf, scansOf, millisOf, answerOf}
 use Rattle.perform.specs.Settings.{changed, changesOf}
 use Rattle.perform.specs.declared.settings.Settings.{Settings}
 use Rattle.perform.specs.declared.price.Performed.{Performed}
-use Rattle.judge.specs.Token.{Act, Part, act, rep, close, forever, again}
+use Rattle.loops.specs.Token.{Act, Part, act, rep, close, forever, again}
 use Rattle.course.specs.Steps.{saysOf, setsOf}
 use Rattle.course.specs.Tree.{Block, stop, one, loop}
 use Rattle.course.specs.Price.{ones, scans, millis, firstThen, leavesOf, priceOf}

@@ -8,12 +8,12 @@ use native.Mathlib.Decide.{decLt}
 use native.Mathlib.Nat.{mul-le-mul-left, mul-le-mul-right}
 use native.Mathlib.Omega.{arith}
 use Rattle.perform.specs.declared.settings.Settings.{Settings}
-use Rattle.judge.specs.Token.{Part, act, rep, close, Tok, good, sizeOf}
+use Rattle.loops.specs.Token.{Part, act, rep, close, Tok, good, sizeOf}
 use Rattle.course.specs.Steps.{setsOf}
 use Rattle.course.specs.Tree.{Block, stop, one, loop, flat}
 use Rattle.course.specs.Price.{ones, leavesOf, priceOf, firstThen}
 use Rattle.course.proofs.Accepts.{Depth}
-use Rattle.judge.proofs.Values.{Loops}
+use Rattle.loops.proofs.Values.{Loops}
 use Rattle.course.proofs.Runs.{At, past, at-past}
 
 -- passes of at most half of x commands each, and `E`

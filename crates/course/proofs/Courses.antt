@@ -8,7 +8,7 @@ use native.Mathlib.Omega.{arith}
 use lib.ListN.{length}
 use Rattle.perform.specs.declared.settings.Settings.{Settings}
 use Rattle.perform.specs.declared.price.Performed.{Performed}
-use Rattle.judge.specs.Token.{Part, Tok, good}
+use Rattle.loops.specs.Token.{Part, Tok, good}
 use Rattle.course.specs.Steps.{Frame, State, ready, at, Said, did, Busy, wentAt, saidAt, saysOf, goesOf, nextOf, saidOf, afterOf, answersOf}
 use Rattle.course.proofs.Runs.{Runs, done, more}
 

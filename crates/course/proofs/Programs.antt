@@ -9,11 +9,11 @@ use lib.ListN.{length, getD}
 use borrow.Author.Tests.{ltb-false, eqb-true}
 use Rattle.basis.specs.Choice.{when}
 use Rattle.program.specs.Bytes.{caret}
-use Rattle.judge.specs.Token.{Part, rep, Tok, good, sizeOf, get, tokensOf}
+use Rattle.loops.specs.Token.{Part, rep, Tok, good, sizeOf, get, tokensOf}
 use Rattle.judge.specs.Verdict.{judge, commandsOf, judgeOf}
 use Rattle.judge.specs.declared.Verdict.{Verdict}
 use Rattle.judge.specs.declared.Verdict.the-variants.{Finite, Endless, Refused}
-use Rattle.judge.proofs.Tokens.{get-two}
+use Rattle.loops.proofs.Tokens.{get-two}
 use Rattle.course.specs.Tree.{Block, Ending, Pending, Tree, Built, buildOf, treeOf, flat, flatEnd, partsOf}
 use Rattle.course.proofs.Accepts.{Yes, Accepted, accepted, tail, shape, Depth}
 use Rattle.course.proofs.Runs.{At}

@@ -8,7 +8,7 @@ use Rattle.basis.proofs.Choices.{when-true, when-false}
 use Rattle.perform.specs.Price.{answerOf}
 use Rattle.perform.specs.declared.settings.Settings.{Settings}
 use Rattle.perform.specs.declared.price.Performed.{Performed}
-use Rattle.judge.specs.Token.{Part, act, rep, close, forever, again, Tok, good, bad, sizeOf}
+use Rattle.loops.specs.Token.{Part, act, rep, close, forever, again, Tok, good, bad, sizeOf}
 use Rattle.course.specs.Steps.{Frame, frame, State, ready, at, settle, saysOf, setsOf, goesOf}
 use Rattle.course.specs.Tree.{Block, stop, one, loop, times, exitOf, passes, unrolled, flat}
 

@@ -8,7 +8,7 @@ use lib.Dec.{ltb}
 use lib.ListN.{length}
 use borrow.Author.Tests.{ltb-true, ltb-false}
 use Rattle.basis.specs.Choice.{when}
-use Rattle.judge.specs.Token.{Part, Tok, good, bad, sizeOf, chain, tokens}
+use Rattle.loops.specs.Token.{Part, Tok, good, bad, sizeOf, chain, tokens}
 use Rattle.course.proofs.Runs.{At}
 
 module _ (g : ℕ → Tok) (len : ℕ) (two : (p : ℕ) (c : Part) → g p ≡ good c → 2 ≤ sizeOf c) where

@@ -6,7 +6,7 @@ use native.Mathlib.Omega.{arith}
 use Rattle.perform.specs.Price.{answerOf}
 use Rattle.perform.specs.declared.settings.Settings.{Settings}
 use Rattle.perform.specs.declared.price.Performed.{Performed}
-use Rattle.judge.specs.Token.{act, rep, close}
+use Rattle.loops.specs.Token.{act, rep, close}
 use Rattle.course.specs.Steps.{saysOf, setsOf}
 use Rattle.course.specs.Tree.{Block, stop, one, loop, times, exitOf, passes, unrolled}
 use Rattle.course.specs.Price.{sumBy, firstThen, leavesOf, priceOf}

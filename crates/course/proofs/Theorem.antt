@@ -8,11 +8,11 @@ use native.Mathlib.Omega.{arith}
 use lib.ListN.{length, length-append}
 use Rattle.perform.specs.declared.settings.Settings.{Settings}
 use Rattle.perform.specs.declared.price.Performed.{Performed}
-use Rattle.judge.specs.Token.{Part, act, rep, close, forever, again, Tok, good, sizeOf, get, tokensOf}
+use Rattle.loops.specs.Token.{Part, act, rep, close, forever, again, Tok, good, sizeOf, get, tokensOf}
 use Rattle.judge.specs.Verdict.{judgeOf}
 use Rattle.judge.specs.declared.Verdict.{Verdict}
 use Rattle.judge.specs.declared.Verdict.the-variants.{Finite, Endless}
-use Rattle.judge.proofs.Tokens.{get-two, get-within}
+use Rattle.loops.proofs.Tokens.{get-two, get-within}
 use Rattle.course.specs.Steps.{Frame, frame, State, ready, at, settle, Said, did, Busy, saysOf, afterOf, answersOf, started}
 use Rattle.course.specs.Tree.{Block, stop, one, loop, Ending, ends, starts, ever, exitOf, unrolled, flat, flatEnd}
 use Rattle.course.specs.Price.{sumBy, ones, priceOf}
@@ -20,7 +20,7 @@ use Rattle.course.proofs.Accepts.{shape, Depth}
 use Rattle.course.proofs.Bound.{most-steps}
 use Rattle.course.proofs.Changes.{Counted}
 use Rattle.course.proofs.Courses.{runs-after, runs-busy, runs-answers, Returns, never, led}
-use Rattle.judge.proofs.Values.{get-loop}
+use Rattle.loops.proofs.Values.{get-loop}
 use Rattle.course.proofs.Programs.{treeIn, Program, program}
 use Rattle.course.proofs.Runs.{Runs, done, At, past, at-past, tick, runs-append, settle-ready, block-runs}
 use Rattle.course.proofs.Sums.{price-is}

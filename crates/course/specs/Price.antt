@@ -5,7 +5,7 @@ use Prim.Native.Nat.{ℕ, zero, suc, _+_, _*_}
 use mathlib.Core.List.{List, [], _∷_}
 use Rattle.perform.specs.declared.settings.Settings.{Settings}
 use Rattle.perform.specs.declared.price.Performed.{Performed}
-use Rattle.judge.specs.Token.{act, rep, close}
+use Rattle.loops.specs.Token.{act, rep, close}
 use Rattle.course.specs.Steps.{saysOf, setsOf}
 use Rattle.course.specs.Tree.{Block, stop, one, loop}
 

@@ -13,7 +13,7 @@ use Rattle.perform.specs.Price.{answerOf}
 use Rattle.perform.specs.Settings.{behindOf}
 use Rattle.perform.specs.declared.settings.Settings.{Settings}
 use Rattle.perform.specs.declared.price.Performed.{Performed}
-use Rattle.judge.specs.Token.{Act, Part, act, rep, close, forever, again, Tok, good, bad}
+use Rattle.loops.specs.Token.{Act, Part, act, rep, close, forever, again, Tok, good, bad}
 
 -- an open loop: the place behind its `L`, and the count left
 pub data Frame : Type 0 where

@@ -4,7 +4,7 @@ use Prim.Native.Nat.{ℕ, zero, suc, _+_}
 use mathlib.Core.List.{List, [], _∷_, _++_}
 use Rattle.perform.specs.declared.settings.Settings.{Settings}
 use Rattle.perform.specs.declared.price.Performed.{Performed}
-use Rattle.judge.specs.Token.{Act, Part, act, rep, close, forever, again, Tok, good, bad}
+use Rattle.loops.specs.Token.{Act, Part, act, rep, close, forever, again, Tok, good, bad}
 use Rattle.course.specs.Steps.{saysOf, setsOf}
 
 -- commands and loops in a row; a loop has a number and the size of its `L`

@@ -8,10 +8,10 @@ use native.Mathlib.Omega.{arith}
 use native.Mathlib.Decide.{decLt, decLe}
 use lib.ListN.{length, getD}
 use Rattle.program.specs.Bytes.{caret}
-use Rattle.judge.specs.Token.{Part, sizeOf}
+use Rattle.loops.specs.Token.{Part, sizeOf}
 use Rattle.judge.specs.Verdict.{judgeOf}
 use Rattle.grammar.specs.Grammar.{Tiled, done, more, acceptedAs}
-use Rattle.judge.proofs.Tokens.{get-caret, get-only}
+use Rattle.loops.proofs.Tokens.{get-caret, get-only}
 use Rattle.grammar.proofs.Grammars.{accepted-described}
 
 -- q is the front of one of the commands that stand from p on

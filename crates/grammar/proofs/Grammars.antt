@@ -11,13 +11,13 @@ use lib.Dec.{eqb, ltb}
 use lib.ListN.{length, getD}
 use Rattle.basis.specs.Choice.{when}
 use Rattle.program.specs.Bytes.{caret}
-use Rattle.judge.specs.Token.{Act, Part, act, rep, close, forever, again, Tok, good, bad, sizeOf, get, chain, tokensOf}
-use Rattle.judge.specs.Structure.{opened}
+use Rattle.loops.specs.Token.{Act, Part, act, rep, close, forever, again, Tok, good, bad, sizeOf, get, chain, tokensOf}
+use Rattle.loops.specs.Structure.{opened}
 use Rattle.judge.specs.Verdict.{judge, commandsOf, judgeOf}
 use Rattle.grammar.specs.Grammar.{Tiled, done, more, acts, Program, ends, over, ever, one, loop, Described, acceptedAs}
-use Rattle.judge.specs.declared.Open.{Open}
+use Rattle.loops.specs.declared.Open.{Open}
 use Rattle.judge.specs.declared.Verdict.the-variants.{Finite, Endless, Refused}
-use Rattle.judge.proofs.Tokens.{get-two, get-within, get-caret, tokens-first, tokens-none}
+use Rattle.loops.proofs.Tokens.{get-two, get-within, get-caret, tokens-first, tokens-none}
 
 -- commands as tokens
 abbrev goods : List Part → List Tok

@@ -11,13 +11,13 @@ use lib.Dec.{eqb, ltb}
 use lib.ListN.{length, getD}
 use Rattle.basis.specs.Choice.{when}
 use Rattle.program.specs.Bytes.{caret}
-use Rattle.judge.specs.Token.{Part, Tok, good, bad, sizeOf, get, chain, tokensOf}
-use Rattle.judge.specs.Structure.{Structure, broken, kept, structureOf, roleIn, opened, moved}
+use Rattle.loops.specs.Token.{Part, Tok, good, bad, sizeOf, get, chain, tokensOf}
+use Rattle.loops.specs.Structure.{Structure, broken, kept, structureOf, roleIn, opened, moved}
 use Rattle.judge.specs.Verdict.{endOf, judged, judge, commandsOf, judgeOf}
 use Rattle.grammar.specs.Reach.{Reach, start, past, Begun, Refusal, too-long, no-caret, behind, wrong, loops, unclosed}
-use Rattle.judge.specs.declared.Open.{Open}
+use Rattle.loops.specs.declared.Open.{Open}
 use Rattle.judge.specs.declared.Verdict.the-variants.{Refused}
-use Rattle.judge.proofs.Tokens.{get-two, get-within, tokens-first, tokens-none}
+use Rattle.loops.proofs.Tokens.{get-two, get-within, tokens-first, tokens-none}
 
 as-refusal : (b : List ℕ) (k r n q : ℕ) → Refused k r ≡ Refused n q → Refusal b k r → Refusal b n q
 as-refusal b k r n q e x =

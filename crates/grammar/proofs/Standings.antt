@@ -11,18 +11,18 @@ use borrow.Author.Tests.{eq-eqb, ne-eqb, eqb-true}
 use lib.Dec.{eqb}
 use lib.ListN.{length}
 use Rattle.basis.specs.Choice.{when}
-use Rattle.judge.specs.Token.{Part, Tok, good, bad, sizeOf, get, chain, tokensOf}
-use Rattle.judge.specs.Structure.{Structure, broken, kept, structureOf, roleIn, opened, moved, moveOf}
+use Rattle.loops.specs.Token.{Part, Tok, good, bad, sizeOf, get, chain, tokensOf}
+use Rattle.loops.specs.Structure.{Structure, broken, kept, structureOf, roleIn, opened, moved, moveOf}
 use Rattle.judge.specs.Verdict.{judgeOf}
 use Rattle.judge.specs.Standing.{insideOf, stood, standAt, ofAccepted, standOf}
 use Rattle.grammar.specs.Grammar.{acceptedAs}
 use Rattle.grammar.specs.Reach.{Reach, start, past}
-use Rattle.judge.specs.declared.Open.{Open}
+use Rattle.loops.specs.declared.Open.{Open}
 use Rattle.judge.specs.declared.Verdict.{Verdict}
 use Rattle.judge.specs.declared.Verdict.the-variants.{Finite, Endless, Refused}
 use Rattle.judge.specs.declared.Standing.{Standing}
 use Rattle.judge.specs.declared.Standing.the-variants.{Nowhere}
-use Rattle.judge.proofs.Tokens.{get-two, get-within, tokens-first, tokens-none}
+use Rattle.loops.proofs.Tokens.{get-two, get-within, tokens-first, tokens-none}
 
 -- a place at a command of an accepted body, and how it stands there
 pub record At (b : List ℕ) (q : ℕ) (s : Standing) : Type 0 where

@@ -6,7 +6,7 @@ use mathlib.Core.Path.{_≡_}
 use mathlib.Core.List.{List, [], _∷_}
 use mathlib.Core.Bool.{Bool, true, false}
 use lib.ListN.{length}
-use Rattle.judge.specs.Token.{Act, Part, act, rep, close, forever, again, good, sizeOf, get}
+use Rattle.loops.specs.Token.{Act, Part, act, rep, close, forever, again, good, sizeOf, get}
 use Rattle.judge.specs.declared.Verdict.{Verdict}
 use Rattle.judge.specs.declared.Verdict.the-variants.{Finite, Endless}
 

@@ -7,9 +7,9 @@ use mathlib.Core.List.{List, [], _∷_}
 use mathlib.Core.Bool.{Bool, true, false}
 use lib.ListN.{length, getD}
 use Rattle.program.specs.Bytes.{caret}
-use Rattle.judge.specs.Token.{Part, Tok, good, bad, sizeOf, get}
-use Rattle.judge.specs.Structure.{broken, kept, structureOf, roleIn, opened}
-use Rattle.judge.specs.declared.Open.{Open}
+use Rattle.loops.specs.Token.{Part, Tok, good, bad, sizeOf, get}
+use Rattle.loops.specs.Structure.{broken, kept, structureOf, roleIn, opened}
+use Rattle.loops.specs.declared.Open.{Open}
 
 -- Over any reader of places and any number of loops that may be open at once: every command before this place is good and
 -- keeps the rule of loops. From here so many loops may still be opened, an `F` or `R` was met or not, and these loops are open,

@@ -13,7 +13,7 @@ use Rattle.basis.specs.Bytes.{Bytes}
 use Rattle.basis.proofs.Bytes.{byte-at, cut-length}
 use Rattle.basis.proofs.Choices.{and-parts}
 use Rattle.judge.specs.Standing.{insideOf}
-use Rattle.judge.specs.declared.Open.{Open}
+use Rattle.loops.specs.declared.Open.{Open}
 use Rattle.judge.specs.declared.Standing.{Standing}
 use Rattle.machine.specs.Sound.{bodyOf, heldOf, soundOf as runSound}
 use Rattle.machine.specs.declared.Loop.{Loop}

@@ -1,4 +1,1 @@
-pub mod Moves
-pub mod Tokens
 pub mod Turns
-pub mod Values

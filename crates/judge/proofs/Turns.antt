@@ -11,23 +11,23 @@ use Rattle.basis.specs.Choice.{when, _and_}
 use Rattle.basis.proofs.Choices.{and-parts, when-true, when-false}
 use Rattle.program.specs.Bytes.{caret}
 use Rattle.program.specs.declared.Reading.{Reading}
-use Rattle.judge.specs.Token.{Part, act, rep, close, forever, again, Tok, good, bad, sizeOf, get, chain, tokensOf}
-use Rattle.judge.specs.Structure.{Structure, broken, kept, structureOf, roleIn, opened, Move, stop, go, moved, moveOf}
-use Rattle.judge.specs.Flow.{roomOf, endedOf, opensOf, flowOf, turnOf}
+use Rattle.loops.specs.Token.{Part, act, rep, close, forever, again, Tok, good, bad, sizeOf, get, chain, tokensOf}
+use Rattle.loops.specs.Structure.{Structure, broken, kept, structureOf, roleIn, opened, Move, stop, go, moved, moveOf}
+use Rattle.loops.specs.Flow.{roomOf, endedOf, opensOf, flowOf, turnOf}
 use Rattle.judge.specs.Verdict.{endOf, judge, commandsOf, frontOf, judgeOf}
 use Rattle.judge.specs.Standing.{insideOf, stood, standAt, orElse, ofAccepted, seenOf}
 use Rattle.judge.specs.declared.Opening.{Opening}
 use Rattle.judge.specs.declared.Opening.the-variants.{Begun, Refused as TooSoon}
-use Rattle.judge.specs.declared.Open.{Open}
+use Rattle.loops.specs.declared.Open.{Open}
 use Rattle.judge.specs.declared.Standing.{Standing}
 use Rattle.judge.specs.declared.Standing.the-variants.{Nowhere, Outside, Inside}
-use Rattle.judge.specs.declared.Flow.{Flow}
-use Rattle.judge.specs.declared.Flow.the-variants.{Free, Within, Ended}
-use Rattle.judge.specs.declared.Turn.{Turn}
-use Rattle.judge.specs.declared.Turn.the-variants.{Stop, Next}
+use Rattle.loops.specs.declared.Flow.{Flow}
+use Rattle.loops.specs.declared.Flow.the-variants.{Free, Within, Ended}
+use Rattle.loops.specs.declared.Turn.{Turn}
+use Rattle.loops.specs.declared.Turn.the-variants.{Stop, Next}
 use Rattle.judge.specs.declared.Verdict.{Verdict}
 use Rattle.judge.specs.declared.Verdict.the-variants.{Finite, Endless, Refused}
-use Rattle.judge.proofs.Tokens.{get-two, tokens-first, tokens-none}
+use Rattle.loops.proofs.Tokens.{get-two, tokens-first, tokens-none}
 
 -- the verdict on commands where judging stands so
 abbrev pub from : List Tok → ℕ → Flow → Verdict

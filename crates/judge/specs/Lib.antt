@@ -1,5 +1,2 @@
-pub mod Token
-pub mod Structure
 pub mod Verdict
-pub mod Flow
 pub mod Standing

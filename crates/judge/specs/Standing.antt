@@ -9,10 +9,10 @@ use Rattle.basis.specs.Choice.{when}
 use Rattle.program.specs.Command.{readOf}
 use Rattle.program.specs.declared.Reading.{Reading}
 use Rattle.program.specs.declared.Reading.the-variants.{Refused as Wrong}
-use Rattle.judge.specs.Token.{Tok, tokensOf}
-use Rattle.judge.specs.Structure.{Move, stop, go, moveOf}
+use Rattle.loops.specs.Token.{Tok, tokensOf}
+use Rattle.loops.specs.Structure.{Move, stop, go, moveOf}
 use Rattle.judge.specs.Verdict.{judgeOf}
-use Rattle.judge.specs.declared.Open.{Open}
+use Rattle.loops.specs.declared.Open.{Open}
 use Rattle.judge.specs.declared.Verdict.{Verdict}
 use Rattle.judge.specs.declared.Verdict.the-variants.{Finite, Endless, Refused}
 use Rattle.judge.specs.declared.Standing.{Standing}

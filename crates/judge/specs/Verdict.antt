@@ -8,9 +8,9 @@ use lib.Dec.{eqb, ltb, leb}
 use lib.ListN.{length, getD}
 use Rattle.basis.specs.Choice.{when, _and_}
 use Rattle.program.specs.Bytes.{caret}
-use Rattle.judge.specs.Token.{Tok, tokensOf}
-use Rattle.judge.specs.Structure.{Move, stop, go, moveOf}
-use Rattle.judge.specs.declared.Open.{Open}
+use Rattle.loops.specs.Token.{Tok, tokensOf}
+use Rattle.loops.specs.Structure.{Move, stop, go, moveOf}
+use Rattle.loops.specs.declared.Open.{Open}
 use Rattle.judge.specs.declared.Opening.{Opening}
 use Rattle.judge.specs.declared.Opening.the-variants.{Begun, Refused as TooSoon}
 use Rattle.judge.specs.declared.Verdict.{Verdict}

@@ -2,21 +2,21 @@
 // there. Answers to
 // 01: "Then commands from the left; .. An unclosed `L` is judged at the end", and its sound record's "a place at a command, with
 // the loop place behind the enclosing `L`".
-use crate::Flow;
 use crate::Standing;
-use crate::Turn;
 use crate::Verdict;
 use crate::Walked;
-use crate::single::turned;
+use loops::Flow;
+use loops::Turn;
+use loops::turned;
 use program::Reading;
 use program::read_command;
 ghost use mathlib.Core.Path.{_≡_};
 ghost use mathlib.Core.Bool.{false};
 ghost use mathlib.Core.List.{[]};
 ghost use Rattle.program.specs.Command.{readOf};
-ghost use Rattle.judge.specs.Token.{tokensOf};
+ghost use Rattle.loops.specs.Token.{tokensOf};
 ghost use Rattle.judge.specs.declared.Standing.the-variants.{Nowhere};
-ghost use Rattle.judge.specs.Flow.{endedOf, opensOf};
+ghost use Rattle.loops.specs.Flow.{endedOf, opensOf};
 ghost use Rattle.judge.specs.Verdict.{endOf, commandsOf};
 ghost use Rattle.judge.specs.Standing.{insideOf, orElse, standAt, walkedOf};
 

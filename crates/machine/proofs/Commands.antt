@@ -15,7 +15,7 @@ use Rattle.program.proofs.Laws.{TextAt, made}
 use Rattle.program.proofs.Ranges.{formOf, form-is, InRange, number-in-range}
 use Rattle.perform.specs.Price.{answerOf}
 use Rattle.perform.specs.declared.settings.Settings.{Settings}
-use Rattle.judge.specs.Token.{roleOf, partOf, actOf}
+use Rattle.loops.specs.Token.{roleOf, partOf, actOf}
 use Rattle.course.specs.Steps.{saysOf}
 
 -- a number in the range of its kind is a byte

@@ -10,7 +10,7 @@ use Rattle.basis.specs.Bytes.{laid}
 use Rattle.basis.proofs.Laid.{take-laid, drop-laid, length-laid}
 use Rattle.perform.specs.Settings.{soundOf as settingsSound}
 use Rattle.perform.specs.declared.settings.Settings.{Settings}
-use Rattle.judge.specs.Token.{get}
+use Rattle.loops.specs.Token.{get}
 use Rattle.judge.specs.Verdict.{judgeOf}
 use Rattle.grammar.specs.Grammar.{acceptedAs}
 use Rattle.grammar.specs.Reach.{Reach, start}

@@ -9,7 +9,7 @@ use lib.ListN.{length}
 use Rattle.perform.specs.Settings.{soundOf as settingsSound}
 use Rattle.perform.specs.declared.settings.Settings.{Settings}
 use Rattle.perform.specs.declared.price.Performed.{Performed}
-use Rattle.judge.specs.Token.{get}
+use Rattle.loops.specs.Token.{get}
 use Rattle.judge.specs.Verdict.{judgeOf}
 use Rattle.grammar.specs.Grammar.{acceptedAs}
 use Rattle.judge.specs.declared.Verdict.the-variants.{Finite, Endless}

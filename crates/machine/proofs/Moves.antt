@@ -21,10 +21,10 @@ use Rattle.perform.specs.Price.{answerOf}
 use Rattle.perform.specs.Settings.{behindOf}
 use Rattle.perform.specs.declared.settings.Settings.{Settings}
 use Rattle.perform.specs.declared.price.Performed.{Performed}
-use Rattle.judge.specs.Token.{roleOf, Part, Tok, good, bad, sizeOf, partOf, actOf, tokOf, get}
-use Rattle.judge.specs.declared.Role.{Role}
-use Rattle.judge.specs.declared.Role.the-variants.{Plain, Repeat, Close, Forever, Again}
-use Rattle.judge.proofs.Moves.{next-is}
+use Rattle.loops.specs.Token.{roleOf, Part, Tok, good, bad, sizeOf, partOf, actOf, tokOf, get}
+use Rattle.loops.specs.declared.Role.{Role}
+use Rattle.loops.specs.declared.Role.the-variants.{Plain, Repeat, Close, Forever, Again}
+use Rattle.loops.proofs.Moves.{next-is}
 use Rattle.course.specs.Steps.{Frame, frame, State, ready, at, settle, Said, did, idle, saysOf, closed, returned, goesOf, wentAt, saidAt, nextOf, saidOf}
 use Rattle.machine.specs.Sound.{bodyOf}
 use Rattle.machine.specs.Step.{outside, framesOf, loopOf, readyOf, runOf, sayOf}

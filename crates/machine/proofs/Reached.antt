@@ -6,22 +6,22 @@ use mathlib.Core.Bool.{Bool, true, false}
 use mathlib.Core.Path.{_≡_, refl, sym, ap, _∙_, subst}
 use native.Mathlib.Omega.{arith}
 use lib.ListN.{length}
-use Rattle.judge.specs.Token.{Part, act, rep, close, forever, again, Tok, good, bad, sizeOf, get, chain, tokensOf}
-use Rattle.judge.specs.Structure.{Structure, broken, kept, structureOf, roleIn, opened, moved}
+use Rattle.loops.specs.Token.{Part, act, rep, close, forever, again, Tok, good, bad, sizeOf, get, chain, tokensOf}
+use Rattle.loops.specs.Structure.{Structure, broken, kept, structureOf, roleIn, opened, moved}
 use Rattle.judge.specs.Verdict.{judge, judged, commandsOf, judgeOf}
 use Rattle.judge.specs.Standing.{insideOf, standOf}
 use Rattle.grammar.specs.Grammar.{acceptedAs}
 use Rattle.grammar.specs.Reach.{Reach, start, past}
-use Rattle.judge.specs.declared.Open.{Open}
+use Rattle.loops.specs.declared.Open.{Open}
 use Rattle.judge.specs.declared.Verdict.{Verdict}
 use Rattle.judge.specs.declared.Verdict.the-variants.{Finite, Endless, Refused}
 use Rattle.judge.specs.declared.Standing.{Standing}
 use Rattle.judge.specs.declared.Standing.the-variants.{Nowhere}
 use Rattle.grammar.proofs.Refusals.{reach-judge}
 use Rattle.grammar.proofs.Standings.{At, at-stands, stands-at}
-use Rattle.judge.proofs.Tokens.{get-two, tokens-first}
+use Rattle.loops.proofs.Tokens.{get-two, tokens-first}
 use Rattle.course.proofs.Accepts.{Yes}
-use Rattle.judge.proofs.Values.{get-loop}
+use Rattle.loops.proofs.Values.{get-loop}
 use Rattle.course.proofs.Programs.{accepting}
 
 -- the loops that are open and those that may be opened are one together

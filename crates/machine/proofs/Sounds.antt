@@ -14,7 +14,7 @@ use Rattle.basis.proofs.Tests.{tests}
 use Rattle.program.specs.Command.{readOf}
 use Rattle.program.specs.declared.Reading.{Reading}
 use Rattle.program.specs.declared.Reading.the-variants.{Refused as Bad}
-use Rattle.judge.specs.Token.{good, bad, tokOf}
+use Rattle.loops.specs.Token.{good, bad, tokOf}
 use Rattle.judge.specs.declared.Standing.{Standing}
 use Rattle.judge.specs.declared.Standing.the-variants.{Nowhere, Outside, Inside}
 use Rattle.grammar.proofs.Standings.{At, stands-at}

@@ -8,9 +8,9 @@ use Rattle.basis.specs.Choice.{when}
 use Rattle.program.specs.declared.Kind.{Kind}
 use Rattle.perform.specs.Settings.{behindOf}
 use Rattle.perform.specs.declared.settings.Settings.{Settings}
-use Rattle.judge.specs.Token.{get}
-use Rattle.judge.specs.declared.Role.{Role}
-use Rattle.judge.specs.declared.Role.the-variants.{Plain, Repeat, Close, Forever, Again}
+use Rattle.loops.specs.Token.{get}
+use Rattle.loops.specs.declared.Role.{Role}
+use Rattle.loops.specs.declared.Role.the-variants.{Plain, Repeat, Close, Forever, Again}
 use Rattle.course.specs.Steps.{nextOf, saidOf, at}
 use Rattle.machine.specs.Sound.{bodyOf}
 use Rattle.machine.specs.Step.{outside, framesOf, loopOf, readyOf, runOf, sayOf}

@@ -11,7 +11,7 @@ use Rattle.basis.specs.Choice.{when}
 use Rattle.program.specs.declared.Kind.{Kind}
 use Rattle.perform.specs.Settings.{behindOf}
 use Rattle.perform.specs.declared.settings.Settings.{Settings}
-use Rattle.judge.specs.Token.{get}
+use Rattle.loops.specs.Token.{get}
 use Rattle.course.specs.Steps.{Frame, frame, State, ready, at, Said, did, idle, nextOf, saidOf}
 use Rattle.machine.specs.Sound.{bodyOf, soundOf}
 use Rattle.machine.specs.declared.Loop.{Loop}

@@ -69,9 +69,9 @@ use Rattle.judge.proofs.stand.Reads as judge-stand-reads
 use Rattle.judge.proofs.front as judge-front
 use Rattle.judge.proofs.front.Kinds as judge-front-kinds
 use Rattle.judge.proofs.front.Reads as judge-front-reads
-use Rattle.judge.proofs.turned as judge-turned
-use Rattle.judge.proofs.turned.Kinds as judge-turned-kinds
-use Rattle.judge.proofs.turned.Reads as judge-turned-reads
+use Rattle.loops.proofs.turned as judge-turned
+use Rattle.loops.proofs.turned.Kinds as judge-turned-kinds
+use Rattle.loops.proofs.turned.Reads as judge-turned-reads
 use Rattle.judge.proofs.find as judge-find
 use Rattle.judge.proofs.find.Kinds as judge-find-kinds
 use Rattle.judge.proofs.find.Reads as judge-find-reads

@@ -28,7 +28,7 @@ use Rattle.program.specs.declared.Parameter.{Parameter}
 use Rattle.program.specs.declared.Parameter.the-variants.{Right, Wrong}
 use Rattle.program.specs.declared.Reading.{Reading as CommandReading}
 use Rattle.program.specs.declared.Reading.the-variants.{Good, Refused as NoCommand}
-use Rattle.judge.specs.Token.{tokOf, bad, get}
+use Rattle.loops.specs.Token.{tokOf, bad, get}
 use Rattle.judge.specs.Verdict.{judgeOf}
 use Rattle.grammar.specs.Reach.{Refusal, too-long, no-caret, behind, wrong, loops, unclosed}
 use Rattle.judge.specs.declared.Verdict.{Verdict}

@@ -14,7 +14,7 @@ use Rattle.perform.specs.declared.settings.Settings.{Settings}
 use Rattle.perform.specs.declared.price.Performed.{Performed}
 use Rattle.judge.specs.Verdict.{judgeOf}
 use Rattle.judge.specs.declared.Verdict.the-variants.{Finite, Endless}
-use Rattle.judge.specs.Token.{act, rep, close}
+use Rattle.loops.specs.Token.{act, rep, close}
 use Rattle.course.specs.Steps.{saysOf, setsOf}
 use Rattle.course.specs.Tree.{Block, stop, one, loop}
 use Rattle.course.specs.Price.{sumBy, scans, millis, leavesOf}

@@ -9,7 +9,7 @@ use lib.Dec.{eqb}
 use Rattle.basis.proofs.Choices.{and-parts}
 use Rattle.perform.specs.Settings.{changed, changesOf}
 use Rattle.perform.specs.declared.settings.Settings.{Settings}
-use Rattle.judge.specs.Token.{Part, act, rep, close, forever, again, Tok, good, bad, sizeOf, get, tokensOf}
+use Rattle.loops.specs.Token.{Part, act, rep, close, forever, again, Tok, good, bad, sizeOf, get, tokensOf}
 use Rattle.course.specs.Steps.{saysOf}
 use Rattle.course.specs.Price.{scans, millis}
 use Rattle.course.proofs.Agrees.{Agree, scans-care, millis-care}

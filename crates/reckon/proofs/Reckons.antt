@@ -18,11 +18,11 @@ use Rattle.perform.specs.Price.{answerOf}
 use Rattle.perform.specs.Settings.{behindOf}
 use Rattle.perform.specs.declared.settings.Settings.{Settings}
 use Rattle.perform.specs.declared.price.Performed.{Performed}
-use Rattle.judge.specs.Token.{roleOf, Tok, good, sizeOf, partOf, actOf, tokOf, get, chain, tokensOf}
-use Rattle.judge.specs.declared.Role.{Role}
-use Rattle.judge.specs.declared.Role.the-variants.{Plain, Repeat, Close, Forever, Again}
-use Rattle.judge.proofs.Moves.{next-is}
-use Rattle.judge.proofs.Tokens.{tokens-first, tokens-none}
+use Rattle.loops.specs.Token.{roleOf, Tok, good, sizeOf, partOf, actOf, tokOf, get, chain, tokensOf}
+use Rattle.loops.specs.declared.Role.{Role}
+use Rattle.loops.specs.declared.Role.the-variants.{Plain, Repeat, Close, Forever, Again}
+use Rattle.loops.proofs.Moves.{next-is}
+use Rattle.loops.proofs.Tokens.{tokens-first, tokens-none}
 use Rattle.course.specs.Steps.{saysOf}
 use Rattle.reckon.specs.Reckon.{setsPart, addedOf, plainOf, strideOf, passOf}
 use Rattle.totals.specs.Totals.{costOf, plusOf}

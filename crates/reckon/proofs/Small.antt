@@ -19,10 +19,10 @@ use Rattle.perform.specs.declared.price.Doing.{Doing}
 use Rattle.perform.specs.declared.price.Doing.the-variants.{Shows, Streams, Waits, Rests}
 use Rattle.perform.specs.declared.settings.Settings.{Settings}
 use Rattle.perform.specs.declared.price.Performed.{Performed}
-use Rattle.judge.specs.Token.{Act, Part, act, rep, close, good, get}
+use Rattle.loops.specs.Token.{Act, Part, act, rep, close, good, get}
 use Rattle.judge.specs.Verdict.{judgeOf}
 use Rattle.judge.specs.declared.Verdict.the-variants.{Finite}
-use Rattle.judge.proofs.Values.{get-act}
+use Rattle.loops.proofs.Values.{get-act}
 use Rattle.course.specs.Steps.{saysOf, setsOf}
 use Rattle.course.specs.Tree.{Block, stop, one, loop, flat}
 use Rattle.course.specs.Price.{ones, scans, millis, leavesOf, priceOf, firstThen}

@@ -9,20 +9,20 @@ use Rattle.program.specs.Command.{readOf}
 use Rattle.program.specs.declared.Command.{Command}
 use Rattle.program.specs.declared.Reading.the-variants.{Good, Refused}
 use Rattle.perform.specs.declared.settings.Settings.{Settings}
-use Rattle.judge.specs.Token.{roleOf, Act, Part, act, rep, close, forever, again, Tok, good, bad, sizeOf, partOf, actOf, tokOf, get, tokensOf}
-use Rattle.judge.specs.Structure.{roleIn, opened}
-use Rattle.judge.specs.Flow.{endedOf, opensOf}
+use Rattle.loops.specs.Token.{roleOf, Act, Part, act, rep, close, forever, again, Tok, good, bad, sizeOf, partOf, actOf, tokOf, get, tokensOf}
+use Rattle.loops.specs.Structure.{roleIn, opened}
+use Rattle.loops.specs.Flow.{endedOf, opensOf}
 use Rattle.judge.specs.Verdict.{endOf, commandsOf, judgeOf}
-use Rattle.judge.specs.declared.Role.{Role}
-use Rattle.judge.specs.declared.Role.the-variants.{Plain, Repeat, Close, Forever, Again}
+use Rattle.loops.specs.declared.Role.{Role}
+use Rattle.loops.specs.declared.Role.the-variants.{Plain, Repeat, Close, Forever, Again}
 use Rattle.judge.specs.declared.Verdict.{Verdict}
 use Rattle.judge.specs.declared.Verdict.the-variants.{Finite, Endless, Refused as NoProgram}
-use Rattle.judge.specs.declared.Open.{Open}
-use Rattle.judge.specs.declared.Flow.{Flow}
-use Rattle.judge.specs.declared.Flow.the-variants.{Free, Within, Ended}
-use Rattle.judge.specs.declared.Turn.the-variants.{Next}
+use Rattle.loops.specs.declared.Open.{Open}
+use Rattle.loops.specs.declared.Flow.{Flow}
+use Rattle.loops.specs.declared.Flow.the-variants.{Free, Within, Ended}
+use Rattle.loops.specs.declared.Turn.the-variants.{Next}
 use Rattle.judge.proofs.Turns.{from, turnAt, next-place, on-next, on-end}
-use Rattle.judge.proofs.Values.{get-loop}
+use Rattle.loops.proofs.Values.{get-loop}
 use Rattle.totals.specs.Totals.{noneOf, plusOf, timesOf}
 use Rattle.totals.specs.declared.Totals.{Totals}
 use Rattle.course.specs.Price.{leavesOf}

@@ -6,15 +6,15 @@ use native.Mathlib.Omega.{arith}
 use lib.ListN.{length}
 use Rattle.perform.specs.Price.{answerOf}
 use Rattle.perform.specs.declared.settings.Settings.{Settings}
-use Rattle.judge.specs.Token.{Part, act, rep, close, forever, again, Tok, good, bad, sizeOf, get, chain, tokensOf}
+use Rattle.loops.specs.Token.{Part, act, rep, close, forever, again, Tok, good, bad, sizeOf, get, chain, tokensOf}
 use Rattle.judge.specs.Verdict.{judgeOf}
 use Rattle.judge.specs.declared.Verdict.the-variants.{Finite}
-use Rattle.judge.proofs.Tokens.{tokens-first, get-two}
+use Rattle.loops.proofs.Tokens.{tokens-first, get-two}
 use Rattle.course.specs.Steps.{saysOf, setsOf}
 use Rattle.course.specs.Tree.{Block, stop, one, loop, flat}
 use Rattle.course.specs.Price.{ones, scans, millis, leavesOf, priceOf}
 use Rattle.course.proofs.Accepts.{Depth}
-use Rattle.judge.proofs.Values.{get-loop}
+use Rattle.loops.proofs.Values.{get-loop}
 use Rattle.course.proofs.Programs.{treeIn, program}
 use Rattle.course.proofs.Runs.{At, past, at-past}
 use Rattle.course.proofs.Theorem.{finite-stands}

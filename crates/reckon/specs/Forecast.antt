@@ -9,9 +9,9 @@ use Rattle.basis.specs.Choice.{when, _and_, within}
 use Rattle.units.specs.Units.{capped}
 use Rattle.perform.specs.declared.settings.Settings.{Settings}
 use Rattle.perform.specs.declared.price.Performed.{Performed}
-use Rattle.judge.specs.Flow.{endedOf, opensOf}
+use Rattle.loops.specs.Flow.{endedOf, opensOf}
 use Rattle.judge.specs.Verdict.{endOf, judgeOf}
-use Rattle.judge.specs.declared.Flow.{Flow}
+use Rattle.loops.specs.declared.Flow.{Flow}
 use Rattle.judge.specs.declared.Verdict.{Verdict}
 use Rattle.judge.specs.declared.Verdict.the-variants.{Finite, Endless, Refused}
 use Rattle.course.specs.Price.{ones, scans, millis, priceOf}

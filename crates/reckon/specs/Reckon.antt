@@ -7,13 +7,13 @@ use mathlib.Core.Path.{_≡_}
 use lib.Dec.{eqb}
 use Rattle.basis.specs.Choice.{_and_}
 use Rattle.perform.specs.declared.settings.Settings.{Settings}
-use Rattle.judge.specs.Token.{Part, act, rep, close, forever, again, Tok, good, bad, sizeOf, get, tokensOf}
-use Rattle.judge.specs.Structure.{roleIn}
-use Rattle.judge.specs.declared.Open.{Open}
-use Rattle.judge.specs.declared.Flow.{Flow}
-use Rattle.judge.specs.declared.Flow.the-variants.{Free, Within, Ended}
-use Rattle.judge.specs.declared.Role.{Role}
-use Rattle.judge.specs.declared.Role.the-variants.{Plain, Repeat, Close, Forever, Again}
+use Rattle.loops.specs.Token.{Part, act, rep, close, forever, again, Tok, good, bad, sizeOf, get, tokensOf}
+use Rattle.loops.specs.Structure.{roleIn}
+use Rattle.loops.specs.declared.Open.{Open}
+use Rattle.loops.specs.declared.Flow.{Flow}
+use Rattle.loops.specs.declared.Flow.the-variants.{Free, Within, Ended}
+use Rattle.loops.specs.declared.Role.{Role}
+use Rattle.loops.specs.declared.Role.the-variants.{Plain, Repeat, Close, Forever, Again}
 use Rattle.course.specs.Steps.{saysOf, setsOf}
 use Rattle.totals.specs.Totals.{noneOf, costOf, plusOf, timesOf}
 use Rattle.reckon.specs.declared.reckon.Reckoned.{Reckoned}

@@ -3,9 +3,9 @@
 use crate::Totals;
 use crate::walk::walk;
 use judge::Opening;
-use judge::Role;
 use judge::front;
-use judge::role_of;
+use loops::Role;
+use loops::role_of;
 use measure::text_width;
 use perform::Settings;
 use perform::perform;
@@ -19,8 +19,8 @@ ghost use lib.ListN.{length, take, drop};
 ghost use Rattle.measure.specs.Width.{widthOf, widest};
 ghost use Rattle.program.specs.Command.{readOf};
 ghost use Rattle.program.specs.declared.Reading.the-variants.{Good};
-ghost use Rattle.judge.specs.Token.{get};
-ghost use Rattle.judge.specs.Token.{roleOf};
+ghost use Rattle.loops.specs.Token.{get};
+ghost use Rattle.loops.specs.Token.{roleOf};
 ghost use Rattle.reckon.specs.Forecast.{forecastOf};
 ghost use Rattle.reckon.specs.Reckon.{addedOf, plainOf, passOf, alikeOf, laterOf};
 

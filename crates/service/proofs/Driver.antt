@@ -14,7 +14,7 @@ use Rattle.collect.specs.declared.Collection.{Collection}
 use Rattle.reader.specs.Read.{readOf}
 use Rattle.reader.specs.declared.read.Reading.{Reading}
 use Rattle.reader.specs.declared.read.Reading.the-variants.{Query as QueryRead, Reset as ResetRead, Normal, Refused as Unread}
-use Rattle.judge.specs.Token.{get}
+use Rattle.loops.specs.Token.{get}
 use Rattle.course.specs.Steps.{Said, did, idle, at, saidOf}
 use Rattle.machine.specs.Step.{framesOf, sayOf, stepOf as runStep}
 use Rattle.machine.specs.Sound.{bodyOf, soundOf as runSound}

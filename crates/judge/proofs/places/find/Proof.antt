@@ -4,7 +4,7 @@ use mathlib.Core.Bool.{false}
 use mathlib.Core.List.{[]}
 use Rattle.program.specs.Command.{readOf}
 use Rattle.program.specs.declared.Reading.{Reading}
-use Rattle.judge.specs.Token.{tokensOf}
+use Rattle.loops.specs.Token.{tokensOf}
 use Rattle.judge.specs.Standing.{standAt, ofAccepted, standOf, seenOf}
 use Rattle.judge.specs.declared.Standing.{Standing}
 use Rattle.judge.specs.declared.Verdict.{Verdict}

@@ -2,7 +2,7 @@
 use mathlib.Core.Path.{sym, ap, _∙_}
 use mathlib.Core.Bool.{false}
 use mathlib.Core.List.{[]}
-use Rattle.judge.specs.Token.{tokensOf}
+use Rattle.loops.specs.Token.{tokensOf}
 use Rattle.judge.specs.Standing.{standAt, ofAccepted, standOf}
 use Rattle.judge.specs.declared.Verdict.{Verdict}
 use Rattle.judge.specs.declared.Walked.{Walked}

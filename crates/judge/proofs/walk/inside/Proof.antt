@@ -1,8 +1,8 @@
 -- `judge::walk::inside` meets its contract: each arm knows where judging stands.
 use mathlib.Core.Path.{sym, ap, _∙_}
-use Rattle.judge.specs.Flow.{opensOf}
+use Rattle.loops.specs.Flow.{opensOf}
 use Rattle.judge.specs.Standing.{insideOf}
-use Rattle.judge.specs.declared.Flow.{Flow}
+use Rattle.loops.specs.declared.Flow.{Flow}
 use borrow.Author.Needs.{needs}
 use Rattle.judge.proofs.walk.inside.Statement.{statement}
 use Rattle.judge.proofs.walk.inside.Tie as tie

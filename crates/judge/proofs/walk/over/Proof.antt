@@ -1,10 +1,10 @@
 -- `judge::walk::over` meets its contract: each arm knows where judging stands.
 use mathlib.Core.Path.{sym, ap}
 use Rattle.program.specs.declared.Reading.{Reading}
-use Rattle.judge.specs.Flow.{endedOf, opensOf}
+use Rattle.loops.specs.Flow.{endedOf, opensOf}
 use Rattle.judge.specs.Verdict.{endOf}
 use Rattle.judge.specs.Standing.{walkedOf}
-use Rattle.judge.specs.declared.Flow.{Flow}
+use Rattle.loops.specs.declared.Flow.{Flow}
 use Rattle.judge.specs.declared.Standing.{Standing}
 use Rattle.judge.specs.declared.Walked.{Walked}
 use borrow.Author.Needs.{needs}

@@ -11,15 +11,15 @@ use lib.ListN.{length}
 use borrow.Author.Needs.{needs}
 use Rattle.program.specs.Command.{readOf}
 use Rattle.program.specs.declared.Reading.{Reading}
-use Rattle.judge.specs.Token.{tokensOf}
-use Rattle.judge.specs.Flow.{endedOf, opensOf, turnedOf}
+use Rattle.loops.specs.Token.{tokensOf}
+use Rattle.loops.specs.Flow.{endedOf, opensOf, turnedOf}
 use Rattle.judge.specs.Verdict.{endOf, commandsOf}
 use Rattle.judge.specs.Standing.{standAt, orElse, walkedOf}
 use Rattle.judge.specs.declared.Standing.{Standing}
 use Rattle.judge.specs.declared.Standing.the-variants.{Nowhere}
 use Rattle.judge.specs.declared.Verdict.{Verdict}
 use Rattle.judge.specs.declared.Walked.{Walked}
-use Rattle.judge.proofs.Moves.{turned-is}
+use Rattle.loops.proofs.Moves.{turned-is}
 use Rattle.judge.proofs.Turns.{from, place-grows, on-stop, on-next, on-end, standFrom, found-here, found-past, found-all, accepted-nowhere}
 use Rattle.judge.proofs.walk.walk.Statement.{statement}
 use Rattle.judge.proofs.walk.walk.Tie as tie

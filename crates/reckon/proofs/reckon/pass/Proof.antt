@@ -6,8 +6,8 @@ use lib.ListN.{length}
 use borrow.Author.Tests.{not-true, not-false}
 use Rattle.program.specs.Command.{readOf}
 use Rattle.program.proofs.Laws.{starts-within}
-use Rattle.judge.specs.Token.{roleOf, Tok, sizeOf, partOf, actOf}
-use Rattle.judge.proofs.Tokens.{get-two}
+use Rattle.loops.specs.Token.{roleOf, Tok, sizeOf, partOf, actOf}
+use Rattle.loops.proofs.Tokens.{get-two}
 use Rattle.reckon.specs.Reckon.{addedOf, passOf}
 use Rattle.reckon.specs.declared.reckon.Reckoned.{Reckoned}
 use Rattle.reckon.proofs.Reckons.{stands-good, pass-ends, pass-stops, pass-goes}

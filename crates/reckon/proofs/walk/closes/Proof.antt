@@ -1,6 +1,6 @@
 -- `closes` goes by the loop that is open.
 use mathlib.Core.Path.{sym, ap, _∙_}
-use Rattle.judge.specs.declared.Flow.{Flow}
+use Rattle.loops.specs.declared.Flow.{Flow}
 use Rattle.totals.specs.declared.Totals.{Totals}
 use Rattle.reckon.specs.Reckon.{closesOf}
 use borrow.Author.Needs.{needs}

@@ -1,6 +1,6 @@
 -- `taken` goes by the command's role.
 use mathlib.Core.Path.{sym, ap, _∙_}
-use Rattle.judge.specs.declared.Role.{Role}
+use Rattle.loops.specs.declared.Role.{Role}
 use Rattle.totals.specs.declared.Totals.{Totals}
 use Rattle.reckon.specs.Reckon.{takenOf}
 use borrow.Author.Needs.{needs}

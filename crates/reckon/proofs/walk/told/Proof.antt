@@ -1,6 +1,6 @@
 -- `told` goes by how judging ended.
 use mathlib.Core.Path.{sym, ap}
-use Rattle.judge.specs.declared.Flow.{Flow}
+use Rattle.loops.specs.declared.Flow.{Flow}
 use Rattle.reckon.specs.Forecast.{toldOf}
 use borrow.Author.Needs.{needs}
 use Rattle.reckon.proofs.walk.told.Statement.{statement}

@@ -5,9 +5,9 @@ use native.Mathlib.Omega.{arith}
 use lib.ListN.{length}
 use Rattle.program.specs.Command.{readOf}
 use Rattle.program.specs.declared.Reading.{Reading}
-use Rattle.judge.specs.Flow.{turnedOf}
+use Rattle.loops.specs.Flow.{turnedOf}
 use Rattle.judge.specs.declared.Verdict.{Verdict}
-use Rattle.judge.proofs.Moves.{turned-is}
+use Rattle.loops.proofs.Moves.{turned-is}
 use Rattle.judge.proofs.Turns.{place-grows, on-stop, begun-front}
 use Rattle.course.specs.Price.{leavesOf}
 use Rattle.course.proofs.Programs.{treeIn}

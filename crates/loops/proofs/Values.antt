@@ -15,9 +15,9 @@ use Rattle.program.specs.declared.Reading.the-variants.{Good, Refused}
 use Rattle.program.proofs.Rows.{row-plain}
 use Rattle.program.proofs.Laws.{Made, made, at-least-two}
 use Rattle.program.proofs.Ranges.{formOf, InRange, number-in-range, text-within, loop-digits}
-use Rattle.judge.specs.Token.{roleOf, Act, Part, act, rep, close, forever, again, Tok, good, bad, partOf, actOf, tokOf, get}
-use Rattle.judge.specs.declared.Role.{Role}
-use Rattle.judge.specs.declared.Role.the-variants.{Plain, Repeat, Close, Forever, Again}
+use Rattle.loops.specs.Token.{roleOf, Act, Part, act, rep, close, forever, again, Tok, good, bad, partOf, actOf, tokOf, get}
+use Rattle.loops.specs.declared.Role.{Role}
+use Rattle.loops.specs.declared.Role.the-variants.{Plain, Repeat, Close, Forever, Again}
 
 repeat-is : (k : Kind) → roleOf k ≡ Repeat → k ≡ L
 repeat-is L e = refl

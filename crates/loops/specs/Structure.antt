@@ -4,10 +4,10 @@
 use Prim.Native.Nat.{ℕ, zero, suc, _+_}
 use mathlib.Core.List.{List, [], _∷_}
 use mathlib.Core.Bool.{Bool, true, false}
-use Rattle.judge.specs.Token.{Part, act, rep, close, forever, again, Tok, good, bad, sizeOf}
-use Rattle.judge.specs.declared.Role.{Role}
-use Rattle.judge.specs.declared.Role.the-variants.{Plain, Repeat, Close, Forever, Again}
-use Rattle.judge.specs.declared.Open.{Open}
+use Rattle.loops.specs.Token.{Part, act, rep, close, forever, again, Tok, good, bad, sizeOf}
+use Rattle.loops.specs.declared.Role.{Role}
+use Rattle.loops.specs.declared.Role.the-variants.{Plain, Repeat, Close, Forever, Again}
+use Rattle.loops.specs.declared.Open.{Open}
 
 -- what the rule says of a command: it may not stand there; or how many loops may still be opened, whether the program is
 -- ended, and the open loops, innermost first

@@ -12,8 +12,8 @@ use Rattle.program.specs.declared.Kind.the-variants.{II, IA, IB, S, L, E, F, R,
 use Rattle.program.specs.declared.Command.{Command}
 use Rattle.program.specs.declared.Reading.{Reading}
 use Rattle.program.specs.declared.Reading.the-variants.{Good, Refused}
-use Rattle.judge.specs.declared.Role.{Role}
-use Rattle.judge.specs.declared.Role.the-variants.{Plain, Repeat, Close, Forever, Again}
+use Rattle.loops.specs.declared.Role.{Role}
+use Rattle.loops.specs.declared.Role.the-variants.{Plain, Repeat, Close, Forever, Again}
 
 -- what a command does to the structure: `L` opens a loop, `E` closes it, `F` closes it for ever, `R` goes to the first command
 abbrev pub roleOf : Kind → Role

@@ -14,8 +14,8 @@ use Rattle.program.specs.Command.{readOf}
 use Rattle.program.specs.declared.Reading.{Reading}
 use Rattle.program.specs.declared.Reading.the-variants.{Good, Refused}
 use Rattle.program.proofs.Laws.{at-least-two, ends-within, starts-with-caret, only-caret}
-use Rattle.judge.specs.Token.{roleOf, Part, Tok, good, bad, sizeOf, partOf, actOf, tokOf, get, chain, tokens, tokensOf}
-use Rattle.judge.proofs.Moves.{next-is}
+use Rattle.loops.specs.Token.{roleOf, Part, Tok, good, bad, sizeOf, partOf, actOf, tokOf, get, chain, tokens, tokensOf}
+use Rattle.loops.proofs.Moves.{next-is}
 
 module _ (g : ℕ → Tok) (len : ℕ) (two : (p : ℕ) (c : Part) → g p ≡ good c → 2 ≤ sizeOf c) where
   pub none-left : (k p : ℕ) → len ≤ p → tokens g len k p ≡ []

@@ -1,9 +1,9 @@
 -- `judge::structure::rule` meets its contract: where judging stands says which of the two answers.
-use Rattle.judge.proofs.Moves.{rule-flow}
-use Rattle.judge.specs.declared.Flow.the-variants.{Free, Within, Ended}
+use Rattle.loops.proofs.Moves.{rule-flow}
+use Rattle.loops.specs.declared.Flow.the-variants.{Free, Within, Ended}
 use borrow.Author.Needs.{needs}
-use Rattle.judge.proofs.structure.rule.Statement.{statement}
-use Rattle.judge.proofs.structure.rule.Tie as tie
+use Rattle.loops.proofs.structure.rule.Statement.{statement}
+use Rattle.loops.proofs.structure.rule.Tie as tie
 
 enum-told : tie.Need-enum-told
 enum-told c = search needs

@@ -6,15 +6,15 @@ use Rattle.basis.specs.Choice.{when}
 use Rattle.program.specs.declared.Command.{Command}
 use Rattle.program.specs.declared.Reading.{Reading}
 use Rattle.program.specs.declared.Reading.the-variants.{Good, Refused}
-use Rattle.judge.specs.Token.{roleOf}
-use Rattle.judge.specs.Structure.{Structure, broken, kept, structureOf, Move, stop, go, moved}
-use Rattle.judge.specs.declared.Open.{Open}
-use Rattle.judge.specs.declared.Flow.{Flow}
-use Rattle.judge.specs.declared.Flow.the-variants.{Free, Within, Ended}
-use Rattle.judge.specs.declared.Rule.{Rule}
-use Rattle.judge.specs.declared.Rule.the-variants.{Broken, Kept}
-use Rattle.judge.specs.declared.Turn.{Turn}
-use Rattle.judge.specs.declared.Turn.the-variants.{Stop, Next}
+use Rattle.loops.specs.Token.{roleOf}
+use Rattle.loops.specs.Structure.{Structure, broken, kept, structureOf, Move, stop, go, moved}
+use Rattle.loops.specs.declared.Open.{Open}
+use Rattle.loops.specs.declared.Flow.{Flow}
+use Rattle.loops.specs.declared.Flow.the-variants.{Free, Within, Ended}
+use Rattle.loops.specs.declared.Rule.{Rule}
+use Rattle.loops.specs.declared.Rule.the-variants.{Broken, Kept}
+use Rattle.loops.specs.declared.Turn.{Turn}
+use Rattle.loops.specs.declared.Turn.the-variants.{Stop, Next}
 
 abbrev pub roomOf : Flow → ℕ
 roomOf Free = 1

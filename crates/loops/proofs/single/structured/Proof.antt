@@ -1,13 +1,13 @@
 -- `judge::single::structured` meets its contract: the rule's answer for the command's role is the move.
 use mathlib.Core.Path.{sym, ap, _∙_}
-use Rattle.judge.proofs.Moves.{turn-broken, turn-kept}
-use Rattle.judge.specs.Token.{roleOf}
-use Rattle.judge.specs.Structure.{structureOf}
-use Rattle.judge.specs.Flow.{roomOf, opensOf, ruleOf, hereOf}
-use Rattle.judge.specs.declared.Role.{Role}
+use Rattle.loops.proofs.Moves.{turn-broken, turn-kept}
+use Rattle.loops.specs.Token.{roleOf}
+use Rattle.loops.specs.Structure.{structureOf}
+use Rattle.loops.specs.Flow.{roomOf, opensOf, ruleOf, hereOf}
+use Rattle.loops.specs.declared.Role.{Role}
 use borrow.Author.Needs.{needs}
-use Rattle.judge.proofs.single.structured.Statement.{statement}
-use Rattle.judge.proofs.single.structured.Tie as tie
+use Rattle.loops.proofs.single.structured.Statement.{statement}
+use Rattle.loops.proofs.single.structured.Tie as tie
 
 role-requires : tie.Need-role-requires
 role-requires c κs = search needs

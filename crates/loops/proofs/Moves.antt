@@ -19,18 +19,18 @@ use Rattle.program.specs.declared.Reading.the-variants.{Good, Refused}
 use Rattle.basis.proofs.Choices.{and-parts, when-true, when-false}
 use Rattle.program.proofs.Rows.{row-holds}
 use Rattle.program.proofs.Laws.{Made, made, at-least-two, bare-ends}
-use Rattle.judge.specs.Token.{roleOf, Act, Part, act, rep, close, forever, again, Tok, good, bad, sizeOf, partOf, actOf, tokOf, get}
-use Rattle.judge.specs.Structure.{Structure, broken, kept, structureOf, roleIn, opened, Move, stop, go, moved, moveOf}
-use Rattle.judge.specs.Flow.{roomOf, endedOf, opensOf, flowOf, ruleOf, turnOf, hereOf, heardOf, turnedOf}
-use Rattle.judge.specs.declared.Role.{Role}
-use Rattle.judge.specs.declared.Role.the-variants.{Plain, Repeat, Close, Forever, Again}
-use Rattle.judge.specs.declared.Open.{Open}
-use Rattle.judge.specs.declared.Flow.{Flow}
-use Rattle.judge.specs.declared.Flow.the-variants.{Free, Within, Ended}
-use Rattle.judge.specs.declared.Rule.{Rule}
-use Rattle.judge.specs.declared.Rule.the-variants.{Broken, Kept}
-use Rattle.judge.specs.declared.Turn.{Turn}
-use Rattle.judge.specs.declared.Turn.the-variants.{Stop, Next}
+use Rattle.loops.specs.Token.{roleOf, Act, Part, act, rep, close, forever, again, Tok, good, bad, sizeOf, partOf, actOf, tokOf, get}
+use Rattle.loops.specs.Structure.{Structure, broken, kept, structureOf, roleIn, opened, Move, stop, go, moved, moveOf}
+use Rattle.loops.specs.Flow.{roomOf, endedOf, opensOf, flowOf, ruleOf, turnOf, hereOf, heardOf, turnedOf}
+use Rattle.loops.specs.declared.Role.{Role}
+use Rattle.loops.specs.declared.Role.the-variants.{Plain, Repeat, Close, Forever, Again}
+use Rattle.loops.specs.declared.Open.{Open}
+use Rattle.loops.specs.declared.Flow.{Flow}
+use Rattle.loops.specs.declared.Flow.the-variants.{Free, Within, Ended}
+use Rattle.loops.specs.declared.Rule.{Rule}
+use Rattle.loops.specs.declared.Rule.the-variants.{Broken, Kept}
+use Rattle.loops.specs.declared.Turn.{Turn}
+use Rattle.loops.specs.declared.Turn.the-variants.{Stop, Next}
 
 -- the rule at a known role, and at a known flow
 pub rule-role : (m : ℕ) (here : Open) (o : List Open) (r k : Role) → r ≡ k → ruleOf (structureOf k m here o) ≡ ruleOf (structureOf r m here o)

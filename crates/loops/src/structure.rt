@@ -7,9 +7,9 @@ use crate::Rule;
 use program::Kind;
 ghost use mathlib.Core.Path.{_≡_};
 ghost use mathlib.Core.List.{[], _∷_};
-ghost use Rattle.judge.specs.Token.{roleOf};
-ghost use Rattle.judge.specs.Structure.{structureOf};
-ghost use Rattle.judge.specs.Flow.{roomOf, opensOf, ruleOf};
+ghost use Rattle.loops.specs.Token.{roleOf};
+ghost use Rattle.loops.specs.Structure.{structureOf};
+ghost use Rattle.loops.specs.Flow.{roomOf, opensOf, ruleOf};
 
 // What a command does to the structure of a program.
 pub fn role(kind: Kind) -> Role

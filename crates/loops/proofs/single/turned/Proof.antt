@@ -2,10 +2,10 @@
 use mathlib.Core.Path.{sym, ap, _∙_}
 use Rattle.basis.proofs.Choices.{when-true, when-false}
 use Rattle.program.specs.declared.Reading.{Reading}
-use Rattle.judge.specs.Flow.{heardOf}
+use Rattle.loops.specs.Flow.{heardOf}
 use borrow.Author.Needs.{needs}
-use Rattle.judge.proofs.single.turned.Statement.{statement}
-use Rattle.judge.proofs.single.turned.Tie as tie
+use Rattle.loops.proofs.single.turned.Statement.{statement}
+use Rattle.loops.proofs.single.turned.Tie as tie
 
 ended-requires : tie.Need-ended-requires
 ended-requires c κs = search needs

@@ -8,9 +8,9 @@ use crate::structure::rule;
 use program::Command;
 use program::Reading;
 ghost use mathlib.Core.Path.{_≡_};
-ghost use Rattle.judge.specs.Token.{roleOf};
-ghost use Rattle.judge.specs.Structure.{moved, structureOf};
-ghost use Rattle.judge.specs.Flow.{roomOf, endedOf, opensOf, turnOf, hereOf, turnedOf};
+ghost use Rattle.loops.specs.Token.{roleOf};
+ghost use Rattle.loops.specs.Structure.{moved, structureOf};
+ghost use Rattle.loops.specs.Flow.{roomOf, endedOf, opensOf, turnOf, hereOf, turnedOf};
 
 // Whether a command here would stand behind an `F` or `R`.
 fn ended(flow: Flow) -> bool

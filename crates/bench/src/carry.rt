@@ -26,7 +26,7 @@ fn said(bytes: &[u8]) -> u64 {
 pub(crate) fn packets(body: &[u8]) {
     let mut out = [0u8; 126];
     field(b"a body of ", body.len() as u64);
-    let wrote = packet::write_transmission(0x80, 5, body, &mut out);
+    let wrote = transmission::write_transmission(0x80, 5, body, &mut out);
     match wrote {
         Written::Wrote(_) => field(b": packets ", said(&out)),
         Written::Refused(no) => field(b": refused ", no as u64),

@@ -1,11 +1,11 @@
 // Packets and replies for C, read and written. Answers to 01, "The packet".
-use packet::write_packet;
 use packet::write_query;
 use packet::write_reset;
-use packet::write_transmission;
 use reader::read_packet;
 use reply::read_reply;
 use reply::write_reply;
+use transmission::write_packet;
+use transmission::write_transmission;
 use words::tell_reading;
 use words::tell_status;
 use words::tell_written;

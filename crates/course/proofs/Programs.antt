@@ -8,7 +8,7 @@ use lib.Dec.{eqb, ltb}
 use lib.ListN.{length, getD}
 use borrow.Author.Tests.{ltb-false, eqb-true}
 use Rattle.basis.specs.Choice.{when}
-use Rattle.program.specs.Bytes.{caret}
+use Rattle.params.specs.Bytes.{caret}
 use Rattle.loops.specs.Token.{Part, rep, Tok, good, sizeOf, get, tokensOf}
 use Rattle.judge.specs.Verdict.{judge, commandsOf, judgeOf}
 use Rattle.judge.specs.declared.Verdict.{Verdict}

@@ -10,7 +10,7 @@ use borrow.Author.Tests.{le-ltb, eq-eqb, ltb-false, eqb-true}
 use lib.Dec.{eqb, ltb}
 use lib.ListN.{length, getD}
 use Rattle.basis.specs.Choice.{when}
-use Rattle.program.specs.Bytes.{caret}
+use Rattle.params.specs.Bytes.{caret}
 use Rattle.loops.specs.Token.{Act, Part, act, rep, close, forever, again, Tok, good, bad, sizeOf, get, chain, tokensOf}
 use Rattle.loops.specs.Structure.{opened}
 use Rattle.judge.specs.Verdict.{judge, commandsOf, judgeOf}

@@ -10,7 +10,7 @@ use borrow.Author.Tests.{le-ltb, lt-ltb, eq-eqb, ne-eqb, ltb-true, ltb-false, eq
 use lib.Dec.{eqb, ltb}
 use lib.ListN.{length, getD}
 use Rattle.basis.specs.Choice.{when}
-use Rattle.program.specs.Bytes.{caret}
+use Rattle.params.specs.Bytes.{caret}
 use Rattle.loops.specs.Token.{Part, Tok, good, bad, sizeOf, get, chain, tokensOf}
 use Rattle.loops.specs.Structure.{Structure, broken, kept, structureOf, roleIn, opened, moved}
 use Rattle.judge.specs.Verdict.{endOf, judged, judge, commandsOf, judgeOf}

@@ -6,7 +6,7 @@ use mathlib.Core.Path.{_≡_}
 use mathlib.Core.List.{List, [], _∷_}
 use mathlib.Core.Bool.{Bool, true, false}
 use lib.ListN.{length, getD}
-use Rattle.program.specs.Bytes.{caret}
+use Rattle.params.specs.Bytes.{caret}
 use Rattle.loops.specs.Token.{Part, Tok, good, bad, sizeOf, get}
 use Rattle.loops.specs.Structure.{broken, kept, structureOf, roleIn, opened}
 use Rattle.loops.specs.declared.Open.{Open}

@@ -9,7 +9,7 @@ use lib.Dec.{eqb, ltb, leb}
 use lib.ListN.{length, getD}
 use Rattle.basis.specs.Choice.{when, _and_}
 use Rattle.basis.proofs.Choices.{and-parts, when-true, when-false}
-use Rattle.program.specs.Bytes.{caret}
+use Rattle.params.specs.Bytes.{caret}
 use Rattle.program.specs.declared.Reading.{Reading}
 use Rattle.loops.specs.Token.{Part, act, rep, close, forever, again, Tok, good, bad, sizeOf, get, chain, tokensOf}
 use Rattle.loops.specs.Structure.{Structure, broken, kept, structureOf, roleIn, opened, Move, stop, go, moved, moveOf}

@@ -7,7 +7,7 @@ use mathlib.Core.Bool.{Bool, true, false}
 use lib.Dec.{eqb, ltb, leb}
 use lib.ListN.{length, getD}
 use Rattle.basis.specs.Choice.{when, _and_}
-use Rattle.program.specs.Bytes.{caret}
+use Rattle.params.specs.Bytes.{caret}
 use Rattle.loops.specs.Token.{Tok, tokensOf}
 use Rattle.loops.specs.Structure.{Move, stop, go, moveOf}
 use Rattle.loops.specs.declared.Open.{Open}

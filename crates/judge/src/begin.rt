@@ -1,6 +1,6 @@
 // The refusals that come before any command. Answers to 01: "28 and 21 come first."
 use crate::Opening;
-use program::CARET;
+use params::CARET;
 ghost use mathlib.Core.Path.{_≡_};
 ghost use Rattle.judge.specs.Verdict.{frontOf};
 

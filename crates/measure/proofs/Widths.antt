@@ -9,7 +9,7 @@ use lib.ListN.{length, getD, take, drop, drop-of-length-le, length-take, length-
 use lib.Seq.{take-all}
 use Rattle.basis.specs.Choice.{when}
 use Rattle.basis.proofs.Lists.{drop-next}
-use Rattle.program.specs.Bytes.{tilde}
+use Rattle.params.specs.Bytes.{tilde}
 use Rattle.measure.specs.Width.{fontColumns, columnsOf, eachOf, widthFrom, widthOf, widest}
 
 pick-most : (t : Bool) (a b n : ℕ) → a ≤ n → b ≤ n → when t a b ≤ n

@@ -7,7 +7,7 @@ use mathlib.Core.List.{List, [], _∷_}
 use mathlib.Core.Bool.{Bool}
 use lib.Dec.{eqb, leb}
 use Rattle.basis.specs.Choice.{when}
-use Rattle.program.specs.Bytes.{tilde}
+use Rattle.params.specs.Bytes.{tilde}
 
 -- the columns of a character in a font, named by its letter: D 6, d 7, B 8, b 9, C 5, c 6
 abbrev pub fontColumns : ℕ → ℕ

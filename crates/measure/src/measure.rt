@@ -1,10 +1,10 @@
 // A text measured. Answers to 01: "Width: each text starts in `D`. Columns per character: .. A text fits if its width is at
 // most 96 .. A shown text starts at column (96 - width)/2, rounded down."
-use program::TILDE;
+use params::TILDE;
 ghost use mathlib.Core.Path.{_≡_};
 ghost use Prim.Native.Nat.{_+_, _≤_, min};
 ghost use lib.ListN.{take, drop};
-ghost use Rattle.program.specs.Bytes.{tilde};
+ghost use Rattle.params.specs.Bytes.{tilde};
 ghost use Rattle.measure.specs.Width.{fontColumns, columnsOf, eachOf, widthOf, widest, fitsOf, columnOf};
 
 // The columns of the sign.

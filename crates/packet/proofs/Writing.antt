@@ -15,9 +15,10 @@ use Rattle.basis.specs.Rows.{Row, firstOf}
 use Rattle.basis.proofs.Laid.{laid-lent, length-laid}
 use Rattle.basis.proofs.Tests.{tests}
 use Rattle.packet.specs.Wire.{totalOf, partOf, packetOf, packetAt, packetsOf, transmissionOf}
-use Rattle.packet.specs.Write.{Writes, answerOf, bufferOf, packetRows, transmissionRows}
+use Rattle.packet.specs.Write.{Writes, answerOf, bufferOf, fieldsIn, shortBy, packetRows, transmissionRows}
 use Rattle.packet.specs.declared.write.Written.{Written}
 use Rattle.packet.specs.declared.write.Written.the-variants.{Wrote, Refused}
+use Rattle.packet.proofs.Laying.{fields-fit}
 use Rattle.packet.proofs.Parts.{packet-length, part-length, part-cut, packets-length, transmission-length}
 
 module _ (rows : List Row) (bytes out : List ℕ) where
@@ -29,6 +30,17 @@ module _ (rows : List Row) (bytes out : List ℕ) where
   wrote len after e el ea =
       record
       { answered = ap Wrote el ∙ ap (λ (k : ℕ). answerOf k bytes) (sym e); left = ea ∙ ap (λ (k : ℕ). bufferOf k bytes out) (sym e) }
+
+-- a packet without data has seven bytes
+pub special-wrote : (mid id : ℕ) (out after : List ℕ) → 7 ≤ length out → after ≡ fieldsIn mid id 0x10 [] out
+    → Writes (shortBy (packetOf mid id 0x10 []) out ∷ []) (packetOf mid id 0x10 []) out (Wrote 7) after
+special-wrote mid id out after room ea =
+    let size : length (packetOf mid id 0x10 []) ≡ 7 = packet-length mid id 0x10 [] in
+    let none : 0 ≤ 14 = omega arith in
+    wrote (shortBy (packetOf mid id 0x10 []) out ∷ []) (packetOf mid id 0x10 []) out 7 after
+    (ap (λ (n : ℕ). when (ltb (length out) n) 34 0) size ∙ ap (λ (b : Bool). when b 34 0) (le-ltb (length out) 7 room))
+    (sym size)
+    (ea ∙ sym (fields-fit mid id 0x10 [] out none room))
 
 module _ (mid id : ℕ) (body out : List ℕ) (some : length body ≡ 0 → ⊥) (most : length body ≤ 84) (normal : id ≤ 0x3F) where
   module _ (position len : ℕ) (below : position < totalOf body) (cut : len ≡ min (length body - 14 * position) 14) where

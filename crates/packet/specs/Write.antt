@@ -1,20 +1,25 @@
 -- Writing: numbers 31 to 34 of 01 in their order, and what a writer lays into the lent buffer.
-use Prim.Native.Nat.{ℕ, zero, suc}
+use Prim.Native.Nat.{ℕ, zero, suc, _+_}
 use mathlib.Core.Path.{_≡_}
 use mathlib.Core.List.{List, [], _∷_}
 use mathlib.Core.Bool.{Bool}
 use lib.ListN.{length}
 use lib.Dec.{eqb, ltb, leb}
 use Rattle.basis.specs.Bytes.{laid}
-use Rattle.basis.specs.Choice.{_or_}
+use Rattle.basis.specs.Choice.{when, _or_}
 use Rattle.basis.specs.Rows.{Row, _if_, firstOf}
-use Rattle.packet.specs.Wire.{queryOf, resetOf, totalOf, packetAt, transmissionOf}
+use Rattle.packet.specs.Wire.{packetOf, queryOf, resetOf, totalOf, packetAt, transmissionOf}
 use Rattle.packet.specs.declared.write.Written.{Written}
 use Rattle.packet.specs.declared.write.Written.the-variants.{Wrote, Refused}
 
 -- 31: the body is empty or over 84 bytes
 abbrev pub badBody : List ℕ → Bool
 badBody body = eqb (length body) 0 or ltb 84 (length body)
+
+-- one packet of these fields laid into a buffer: nothing where its data are more than a packet holds, or it has no room
+abbrev pub fieldsIn : ℕ → ℕ → ℕ → (part out : List ℕ) → List ℕ
+fieldsIn mid id fifth part out =
+    when (ltb 14 (length part)) out (when (ltb (length out) (length part + 7)) out (laid (packetOf mid id fifth part) out))
 
 -- 34: the buffer is shorter than what is to be written
 abbrev pub shortBy : List ℕ → List ℕ → Row

@@ -1,13 +1,13 @@
-// Writes packets into a lent buffer ("The writer gives ..", numbers 31 to 34). A refusal changes no byte, and bytes past
-// the written ones stay.
+// Writes one packet of given fields, a query or a reset, into a lent buffer ("The writer gives ..", number 34). A refusal changes no
+// byte, and bytes past the written ones stay.
 use crate::sum::negated;
 ghost use mathlib.Core.Path.{_≡_};
 ghost use mathlib.Core.List.{[], _∷_};
-ghost use Prim.Native.Nat.{_+_, _%_, _≤_, min};
+ghost use Prim.Native.Nat.{_+_, _%_, _≤_};
 ghost use lib.ListN.{length, take};
 ghost use Rattle.basis.specs.Bytes.{sum, laid};
-ghost use Rattle.packet.specs.Wire.{sealed, packetOf, queryOf, resetOf, packetAt, transmissionOf};
-ghost use Rattle.packet.specs.Write.{Writes, shortBy, packetRows, transmissionRows};
+ghost use Rattle.packet.specs.Wire.{sealed, packetOf, queryOf, resetOf};
+ghost use Rattle.packet.specs.Write.{Writes, shortBy, fieldsIn};
 
 // How many bytes were written, or the number for no.
 pub enum Written {
@@ -63,12 +63,17 @@ fn write_data(part: &[u8], out: &mut [u8]) -> u8
     total
 }
 
-// Lays one packet of these fields at the buffer's front.
-fn write_fields(mid: u8, id: u8, fifth: u8, part: &[u8], out: &mut [u8])
-    requires { ⌜ (length (now part) ≤ 14) × (length (now part) + 7 ≤ length (now out)) ⌝ }
-    ensures { λ _. ⌜ now (out .exit) ≡ laid (packetOf mid id fifth (now (part .entry))) (now (out .entry)) ⌝ }
+// Lays one packet of these fields at the buffer's front, if its data are no more than a packet holds and it has room.
+pub fn write_fields(mid: u8, id: u8, fifth: u8, part: &[u8], out: &mut [u8])
+    ensures { λ _. ⌜ now (out .exit) ≡ fieldsIn mid id fifth (now (part .entry)) (now (out .entry)) ⌝ }
 {
     let len = part.len();
+    if 14 < len {
+        return;
+    }
+    if out.len() < len + 7 {
+        return;
+    }
     let count = (len + 7) as u8;
     write_front(mid, count, id, fifth, out);
     let front = front_sum(mid, count, id, fifth);
@@ -99,69 +104,4 @@ pub fn write_reset(mid: u8, out: &mut [u8]) -> Written
     ensures { λ r. ⌜ Writes (shortBy (resetOf mid) (now (out .entry)) ∷ []) (resetOf mid) (now (out .entry)) r (now (out .exit)) ⌝ }
 {
     write_special(mid, 0x41, out)
-}
-
-// The lesser of two numbers.
-fn lesser(a: usize, b: usize) -> usize
-    ensures { λ r. ⌜ r ≡ min a b ⌝ }
-{
-    if a < b { a } else { b }
-}
-
-// The packet at one position of a body.
-pub fn write_packet(mid: u8, id: u8, body: &[u8], position: u8, out: &mut [u8]) -> Written
-    ensures { λ r. ⌜ Writes (packetRows mid id (now (body .entry)) position (now (out .entry))) (packetAt mid id (now (body .entry)) position) (now (out .entry)) r (now (out .exit)) ⌝ }
-{
-    let n = body.len();
-    if n == 0 {
-        return Written::Refused(31);
-    }
-    if 84 < n {
-        return Written::Refused(31);
-    }
-    if 0x3f < id {
-        return Written::Refused(32);
-    }
-    let total = (n + 13) / 14;
-    let at = position as usize;
-    if total <= at {
-        return Written::Refused(33);
-    }
-    let from = 14 * at;
-    let len = lesser(n - from, 14);
-    let to = from + len;
-    if out.len() < len + 7 {
-        return Written::Refused(34);
-    }
-    let fifth = (16 * total + at) as u8;
-    write_fields(mid, id, fifth, &body[from..to], out);
-    Written::Wrote(len + 7)
-}
-
-// All packets of a body, each laid into the buffer behind the one before.
-pub fn write_transmission(mid: u8, id: u8, body: &[u8], out: &mut [u8]) -> Written
-    ensures { λ r. ⌜ Writes (transmissionRows mid id (now (body .entry)) (now (out .entry))) (transmissionOf mid id (now (body .entry))) (now (out .entry)) r (now (out .exit)) ⌝ }
-{
-    let n = body.len();
-    if n == 0 {
-        return Written::Refused(31);
-    }
-    if 84 < n {
-        return Written::Refused(31);
-    }
-    if 0x3f < id {
-        return Written::Refused(32);
-    }
-    let total = (n + 13) / 14;
-    let size = 7 * total + n;
-    if out.len() < size {
-        return Written::Refused(34);
-    }
-    let mut position: u8 = 0;
-    while (position as usize) < total {
-        let at = 21 * position as usize;
-        write_packet(mid, id, body, position, &mut out[at..]);
-        position += 1;
-    }
-    Written::Wrote(size)
 }

@@ -13,7 +13,7 @@ use lib.Dec.{eqb}
 use lib.ListN.{length, getD, drop, length-drop}
 use lib.Seq.{getD-drop, drop-drop}
 use Rattle.basis.specs.Choice.{when, _and_}
-use Rattle.program.specs.Bytes.{caret, paramOf}
+use Rattle.params.specs.Bytes.{caret, paramOf}
 use Rattle.program.specs.Table.{Line, line, table, begins, rowAt}
 use Rattle.program.specs.Command.{parameterOf, commandOf, rowOf, readOf}
 use Rattle.program.specs.declared.Kind.{Kind}
@@ -21,8 +21,8 @@ use Rattle.program.specs.declared.Form.{Form}
 use Rattle.program.specs.declared.Form.the-variants.{Text, Bare, Number}
 use Rattle.program.specs.declared.Row.{Row}
 use Rattle.program.specs.declared.Row.the-variants.{Known, Unknown}
-use Rattle.program.specs.declared.Parameter.{Parameter}
-use Rattle.program.specs.declared.Parameter.the-variants.{Right, Wrong}
+use Rattle.params.specs.declared.Parameter.{Parameter}
+use Rattle.params.specs.declared.Parameter.the-variants.{Right, Wrong}
 use Rattle.program.specs.declared.Command.{Command}
 use Rattle.program.specs.declared.Reading.{Reading}
 use Rattle.program.specs.declared.Reading.the-variants.{Good, Refused}

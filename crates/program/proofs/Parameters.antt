@@ -7,18 +7,18 @@ use native.Mathlib.Omega.{arith}
 use lib.Dec.{eqb}
 use lib.ListN.{length, getD, drop}
 use Rattle.basis.specs.Choice.{when, _and_, within}
-use Rattle.program.specs.Bytes.{caret, paramOf, firstOf}
-use Rattle.program.specs.Text.{wrongOf, textOf}
-use Rattle.program.specs.Number.{digits, valueOf, numberOf}
+use Rattle.params.specs.Bytes.{caret, paramOf, firstOf}
+use Rattle.params.specs.Text.{wrongOf, textOf}
+use Rattle.params.specs.Number.{digits, valueOf, numberOf}
 use Rattle.program.specs.Command.{bareOf, parameterOf, nextOf, commandOf}
 use Rattle.program.specs.declared.Kind.{Kind}
 use Rattle.program.specs.declared.Reading.{Reading}
 use Rattle.program.specs.declared.Reading.the-variants.{Good, Refused}
 use Rattle.program.specs.declared.Form.{Form}
 use Rattle.program.specs.declared.Form.the-variants.{Text, Bare, Number}
-use Rattle.program.specs.declared.Parameter.{Parameter}
-use Rattle.program.specs.declared.Parameter.the-variants.{Right, Wrong}
-use Rattle.program.proofs.Places.{param-end, param-next}
+use Rattle.params.specs.declared.Parameter.{Parameter}
+use Rattle.params.specs.declared.Parameter.the-variants.{Right, Wrong}
+use Rattle.params.proofs.Places.{param-end, param-next}
 
 -- what is not right ends nowhere, and what is ends behind its bytes
 abbrev pub Ends : ℕ → Parameter → Type 0

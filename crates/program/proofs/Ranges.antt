@@ -8,9 +8,9 @@ use borrow.Author.Tests.{eqb-true, leb-true}
 use lib.Dec.{eqb, leb}
 use lib.ListN.{length, drop}
 use Rattle.basis.specs.Choice.{when, _and_, within}
-use Rattle.program.specs.Bytes.{caret, paramOf, firstOf}
-use Rattle.program.specs.Text.{wrongOf, textOf}
-use Rattle.program.specs.Number.{digits, valueOf, numberOf}
+use Rattle.params.specs.Bytes.{caret, paramOf, firstOf}
+use Rattle.params.specs.Text.{wrongOf, textOf}
+use Rattle.params.specs.Number.{digits, valueOf, numberOf}
 use Rattle.program.specs.Table.{table, rowAt}
 use Rattle.program.specs.Answers.{lettersOf}
 use Rattle.program.specs.Command.{parameterOf, commandOf, rowOf, readOf}
@@ -19,8 +19,8 @@ use Rattle.program.specs.declared.Kind.the-variants.{II, IA, IB, S, L, E
 use Rattle.program.specs.declared.Form.{Form}
 use Rattle.program.specs.declared.Form.the-variants.{Text, Bare, Number}
 use Rattle.program.specs.declared.Row.the-variants.{Known}
-use Rattle.program.specs.declared.Parameter.{Parameter}
-use Rattle.program.specs.declared.Parameter.the-variants.{Right, Wrong}
+use Rattle.params.specs.declared.Parameter.{Parameter}
+use Rattle.params.specs.declared.Parameter.the-variants.{Right, Wrong}
 use Rattle.program.specs.declared.Command.{Command}
 use Rattle.program.specs.declared.Reading.{Reading}
 use Rattle.program.specs.declared.Reading.the-variants.{Good, Refused}

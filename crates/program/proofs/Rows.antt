@@ -9,7 +9,7 @@ use lib.Dec.{leb}
 use lib.ListN.{length, getD, drop, length-drop, drop-of-length-le}
 use lib.Seq.{getD-drop}
 use Rattle.basis.specs.Choice.{when, _and_}
-use Rattle.program.specs.Bytes.{caret}
+use Rattle.params.specs.Bytes.{caret}
 use Rattle.program.specs.Table.{Line, line, table, begins, rowAt}
 use Rattle.program.specs.Command.{rowOf, readOf}
 use Rattle.program.specs.declared.Kind.{Kind}

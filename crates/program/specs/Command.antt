@@ -4,17 +4,17 @@
 use Prim.Native.Nat.{ℕ, _+_, _-_}
 use mathlib.Core.List.{List, [], _∷_}
 use lib.ListN.{drop}
-use Rattle.program.specs.Bytes.{paramOf}
-use Rattle.program.specs.Text.{textOf}
-use Rattle.program.specs.Number.{numberOf}
+use Rattle.params.specs.Bytes.{paramOf}
+use Rattle.params.specs.Text.{textOf}
+use Rattle.params.specs.Number.{numberOf}
 use Rattle.program.specs.Table.{table, rowAt}
 use Rattle.program.specs.declared.Kind.{Kind}
 use Rattle.program.specs.declared.Form.{Form}
 use Rattle.program.specs.declared.Form.the-variants.{Text, Bare, Number}
 use Rattle.program.specs.declared.Row.{Row}
 use Rattle.program.specs.declared.Row.the-variants.{Known, Unknown}
-use Rattle.program.specs.declared.Parameter.{Parameter}
-use Rattle.program.specs.declared.Parameter.the-variants.{Right, Wrong}
+use Rattle.params.specs.declared.Parameter.{Parameter}
+use Rattle.params.specs.declared.Parameter.the-variants.{Right, Wrong}
 use Rattle.program.specs.declared.Command.{Command}
 use Rattle.program.specs.declared.Reading.{Reading}
 use Rattle.program.specs.declared.Reading.the-variants.{Good, Refused}

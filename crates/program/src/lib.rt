@@ -1,28 +1,12 @@
-// The command language (01, "The program"): one command read at a place of a body. The crate `measure` measures a text, and
-// `judge` judges a whole body. No call has a `requires`; each answers for any bytes and any place.
-//   bytes      the byte at a place, and what kind a text's byte is      "It holds 20h to 7Dh; a tilde followed by one of .."
-//   text       a text's bytes up to its end                             "Text runs to the next caret or the end"
-//   number     one reader for every number                              "A number runs to the next caret or the end, .."
+// The command language (01, "The program"): one command read at a place of a body. The crate `params` reads what follows its
+// letters, `measure` measures a text, and `judge` judges a whole body. No call has a `requires`; each answers for any bytes and any place.
 //   table      the letters of each command and its form                 the table of commands
 //   reader     one command at a place, or its refusal 22 to 25          the table, and "Numbers for no"
 // The definitions that the contracts cite stand in specs/ under the same names.
-mod bytes;
-mod number;
 mod reader;
 mod table;
-mod text;
 
-pub use bytes::CARET;
-pub use bytes::TILDE;
 pub use reader::read_command;
-
-// What a byte is within a text.
-pub enum ByteKind {
-    Plain,
-    Tilde,
-    Graphic,
-    Forbidden,
-}
 
 // The sixteen commands, by their letters; `Scans` is `=`.
 pub enum Kind {
@@ -55,12 +39,6 @@ pub enum Form {
 pub enum Row {
     Known(Kind, Form, usize),
     Unknown,
-}
-
-// A parameter read: the place behind it and its number (0 of a text or nothing), or the refusal and its place.
-pub enum Parameter {
-    Right(usize, usize),
-    Wrong(u8, usize),
 }
 
 // One command: `next` is the place behind it; what it lacks is 0.

@@ -3,18 +3,18 @@
 use crate::Command;
 use crate::Form;
 use crate::Kind;
-use crate::Parameter;
 use crate::Reading;
 use crate::Row;
-use crate::bytes::CARET;
-use crate::bytes::byte_at;
-use crate::number::read_number;
 use crate::table::row;
-use crate::text::read_text;
+use params::CARET;
+use params::Parameter;
+use params::byte_at;
+use params::read_number;
+use params::read_text;
 ghost use mathlib.Core.Path.{_≡_};
 ghost use Prim.Native.Nat.{_≤_};
 ghost use lib.ListN.{drop};
-ghost use Rattle.program.specs.Bytes.{paramOf};
+ghost use Rattle.params.specs.Bytes.{paramOf};
 ghost use Rattle.program.specs.Command.{parameterOf, nextOf, commandOf, readOf};
 
 // What follows the letters of a command, read by its form.

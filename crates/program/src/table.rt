@@ -4,7 +4,7 @@ use crate::Kind;
 use crate::Row;
 ghost use mathlib.Core.Path.{_≡_};
 ghost use mathlib.Core.List.{[], _∷_};
-ghost use Rattle.program.specs.Bytes.{caret};
+ghost use Rattle.params.specs.Bytes.{caret};
 ghost use Rattle.program.specs.Table.{table, rowAt};
 
 // The row of `II`, `IA` or `IB`, by the letter behind the `I`.

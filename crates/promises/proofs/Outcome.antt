@@ -9,18 +9,21 @@ use borrow.Fn.Kinds as K
 use Rattle.reader.proofs.read_packet as reader-read-packet
 use Rattle.reader.proofs.read_packet.Kinds as reader-read-packet-kinds
 use Rattle.reader.proofs.read_packet.Reads as reader-read-packet-reads
+use Rattle.packet.proofs.write_fields as packet-write-fields
+use Rattle.packet.proofs.write_fields.Kinds as packet-write-fields-kinds
+use Rattle.packet.proofs.write_fields.Reads as packet-write-fields-reads
 use Rattle.packet.proofs.write_query as packet-write-query
 use Rattle.packet.proofs.write_query.Kinds as packet-write-query-kinds
 use Rattle.packet.proofs.write_query.Reads as packet-write-query-reads
 use Rattle.packet.proofs.write_reset as packet-write-reset
 use Rattle.packet.proofs.write_reset.Kinds as packet-write-reset-kinds
 use Rattle.packet.proofs.write_reset.Reads as packet-write-reset-reads
-use Rattle.packet.proofs.write_packet as packet-write-packet
-use Rattle.packet.proofs.write_packet.Kinds as packet-write-packet-kinds
-use Rattle.packet.proofs.write_packet.Reads as packet-write-packet-reads
-use Rattle.packet.proofs.write_transmission as packet-write-transmission
-use Rattle.packet.proofs.write_transmission.Kinds as packet-write-transmission-kinds
-use Rattle.packet.proofs.write_transmission.Reads as packet-write-transmission-reads
+use Rattle.transmission.proofs.write_packet as transmission-write-packet
+use Rattle.transmission.proofs.write_packet.Kinds as transmission-write-packet-kinds
+use Rattle.transmission.proofs.write_packet.Reads as transmission-write-packet-reads
+use Rattle.transmission.proofs.write_transmission as transmission-write-transmission
+use Rattle.transmission.proofs.write_transmission.Kinds as transmission-write-transmission-kinds
+use Rattle.transmission.proofs.write_transmission.Reads as transmission-write-transmission-reads
 use Rattle.reply.proofs.read_reply as reply-read-reply
 use Rattle.reply.proofs.read_reply.Kinds as reply-read-reply-kinds
 use Rattle.reply.proofs.read_reply.Reads as reply-read-reply-reads
@@ -45,6 +48,15 @@ use Rattle.input.proofs.pair.Reads as input-pair-reads
 use Rattle.input.proofs.line_end as input-line-end
 use Rattle.input.proofs.line_end.Kinds as input-line-end-kinds
 use Rattle.input.proofs.line_end.Reads as input-line-end-reads
+use Rattle.params.proofs.byte_at as params-byte-at
+use Rattle.params.proofs.byte_at.Kinds as params-byte-at-kinds
+use Rattle.params.proofs.byte_at.Reads as params-byte-at-reads
+use Rattle.params.proofs.read_text as params-read-text
+use Rattle.params.proofs.read_text.Kinds as params-read-text-kinds
+use Rattle.params.proofs.read_text.Reads as params-read-text-reads
+use Rattle.params.proofs.read_number as params-read-number
+use Rattle.params.proofs.read_number.Kinds as params-read-number-kinds
+use Rattle.params.proofs.read_number.Reads as params-read-number-reads
 use Rattle.program.proofs.read_command as program-read-command
 use Rattle.program.proofs.read_command.Kinds as program-read-command-kinds
 use Rattle.program.proofs.read_command.Reads as program-read-command-reads
@@ -69,15 +81,15 @@ use Rattle.judge.proofs.stand.Reads as judge-stand-reads
 use Rattle.judge.proofs.front as judge-front
 use Rattle.judge.proofs.front.Kinds as judge-front-kinds
 use Rattle.judge.proofs.front.Reads as judge-front-reads
-use Rattle.loops.proofs.turned as judge-turned
-use Rattle.loops.proofs.turned.Kinds as judge-turned-kinds
-use Rattle.loops.proofs.turned.Reads as judge-turned-reads
+use Rattle.loops.proofs.turned as loops-turned
+use Rattle.loops.proofs.turned.Kinds as loops-turned-kinds
+use Rattle.loops.proofs.turned.Reads as loops-turned-reads
 use Rattle.judge.proofs.find as judge-find
 use Rattle.judge.proofs.find.Kinds as judge-find-kinds
 use Rattle.judge.proofs.find.Reads as judge-find-reads
-use Rattle.judge.proofs.role_of as judge-role-of
-use Rattle.judge.proofs.role_of.Kinds as judge-role-of-kinds
-use Rattle.judge.proofs.role_of.Reads as judge-role-of-reads
+use Rattle.loops.proofs.role_of as loops-role-of
+use Rattle.loops.proofs.role_of.Kinds as loops-role-of-kinds
+use Rattle.loops.proofs.role_of.Reads as loops-role-of-reads
 use Rattle.perform.proofs.perform as perform-perform
 use Rattle.perform.proofs.perform.Kinds as perform-perform-kinds
 use Rattle.perform.proofs.perform.Reads as perform-perform-reads
@@ -201,6 +213,11 @@ pub one-reader-read-packet : (κs : Lifetimes.Lfts 1) (a : World.ArgsD reader-re
     (s s′ : Clauses.AtExit (K.endedOf 1 reader-read-packet-kinds.ps reader-read-packet-kinds.r) κs) → reader-read-packet-reads.Post κs a r s → reader-read-packet-reads.Post κs a r′ s′ → r ≡ r′
 one-reader-read-packet κs a r r′ s s′ h h′ = one h h′
 
+pub one-packet-write-fields : (κs : Lifetimes.Lfts 2) (a : World.ArgsD packet-write-fields.signature κs) (r r′ : World.ResD packet-write-fields.signature κs)
+    (s s′ : Clauses.AtExit (K.endedOf 2 packet-write-fields-kinds.ps packet-write-fields-kinds.r) κs) → packet-write-fields-reads.Post κs a r s → packet-write-fields-reads.Post κs a r′ s′
+    → now (s .1 .1 .1 .1 .0) ≡ now (s′ .1 .1 .1 .1 .0)
+one-packet-write-fields κs a r r′ s s′ h h′ = one h h′
+
 pub one-packet-write-query : (κs : Lifetimes.Lfts 1) (a : World.ArgsD packet-write-query.signature κs) (r r′ : World.ResD packet-write-query.signature κs)
     (s s′ : Clauses.AtExit (K.endedOf 1 packet-write-query-kinds.ps packet-write-query-kinds.r) κs) → packet-write-query-reads.Post κs a r s → packet-write-query-reads.Post κs a r′ s′
     → (r ≡ r′) × (now (s .1 .0) ≡ now (s′ .1 .0))
@@ -211,15 +228,15 @@ pub one-packet-write-reset : (κs : Lifetimes.Lfts 1) (a : World.ArgsD packet-wr
     → (r ≡ r′) × (now (s .1 .0) ≡ now (s′ .1 .0))
 one-packet-write-reset κs a r r′ s s′ h h′ = (one (h .answered) (h′ .answered), one (h .left) (h′ .left))
 
-pub one-packet-write-packet : (κs : Lifetimes.Lfts 2) (a : World.ArgsD packet-write-packet.signature κs) (r r′ : World.ResD packet-write-packet.signature κs)
-    (s s′ : Clauses.AtExit (K.endedOf 2 packet-write-packet-kinds.ps packet-write-packet-kinds.r) κs) → packet-write-packet-reads.Post κs a r s → packet-write-packet-reads.Post κs a r′ s′
+pub one-transmission-write-packet : (κs : Lifetimes.Lfts 2) (a : World.ArgsD transmission-write-packet.signature κs) (r r′ : World.ResD transmission-write-packet.signature κs)
+    (s s′ : Clauses.AtExit (K.endedOf 2 transmission-write-packet-kinds.ps transmission-write-packet-kinds.r) κs) → transmission-write-packet-reads.Post κs a r s → transmission-write-packet-reads.Post κs a r′ s′
     → (r ≡ r′) × (now (s .1 .1 .1 .1 .0) ≡ now (s′ .1 .1 .1 .1 .0))
-one-packet-write-packet κs a r r′ s s′ h h′ = (one (h .answered) (h′ .answered), one (h .left) (h′ .left))
+one-transmission-write-packet κs a r r′ s s′ h h′ = (one (h .answered) (h′ .answered), one (h .left) (h′ .left))
 
-pub one-packet-write-transmission : (κs : Lifetimes.Lfts 2) (a : World.ArgsD packet-write-transmission.signature κs) (r r′ : World.ResD packet-write-transmission.signature κs)
-    (s s′ : Clauses.AtExit (K.endedOf 2 packet-write-transmission-kinds.ps packet-write-transmission-kinds.r) κs) → packet-write-transmission-reads.Post κs a r s → packet-write-transmission-reads.Post κs a r′ s′
+pub one-transmission-write-transmission : (κs : Lifetimes.Lfts 2) (a : World.ArgsD transmission-write-transmission.signature κs) (r r′ : World.ResD transmission-write-transmission.signature κs)
+    (s s′ : Clauses.AtExit (K.endedOf 2 transmission-write-transmission-kinds.ps transmission-write-transmission-kinds.r) κs) → transmission-write-transmission-reads.Post κs a r s → transmission-write-transmission-reads.Post κs a r′ s′
     → (r ≡ r′) × (now (s .1 .1 .1 .0) ≡ now (s′ .1 .1 .1 .0))
-one-packet-write-transmission κs a r r′ s s′ h h′ = (one (h .answered) (h′ .answered), one (h .left) (h′ .left))
+one-transmission-write-transmission κs a r r′ s s′ h h′ = (one (h .answered) (h′ .answered), one (h .left) (h′ .left))
 
 pub one-reply-read-reply : (κs : Lifetimes.Lfts 1) (a : World.ArgsD reply-read-reply.signature κs) (r r′ : World.ResD reply-read-reply.signature κs)
     (s s′ : Clauses.AtExit (K.endedOf 1 reply-read-reply-kinds.ps reply-read-reply-kinds.r) κs) → reply-read-reply-reads.Post κs a r s → reply-read-reply-reads.Post κs a r′ s′ → r ≡ r′
@@ -254,6 +271,21 @@ pub one-input-line-end : (κs : Lifetimes.Lfts 1) (a : World.ArgsD input-line-en
     (s s′ : Clauses.AtExit (K.endedOf 1 input-line-end-kinds.ps input-line-end-kinds.r) κs) → input-line-end-reads.Post κs a r s → input-line-end-reads.Post κs a r′ s′ → r ≡ r′
 one-input-line-end κs a r r′ s s′ h h′ = one (h .0) (h′ .0)
 
+pub one-params-byte-at : (κs : Lifetimes.Lfts 1) (a : World.ArgsD params-byte-at.signature κs) (r r′ : World.ResD params-byte-at.signature κs)
+    (s s′ : Clauses.AtExit (K.endedOf 1 params-byte-at-kinds.ps params-byte-at-kinds.r) κs) → params-byte-at-reads.Post κs a r s → params-byte-at-reads.Post κs a r′ s′
+    → r ≡ r′
+one-params-byte-at κs a r r′ s s′ h h′ = one h h′
+
+pub one-params-read-text : (κs : Lifetimes.Lfts 1) (a : World.ArgsD params-read-text.signature κs) (r r′ : World.ResD params-read-text.signature κs)
+    (s s′ : Clauses.AtExit (K.endedOf 1 params-read-text-kinds.ps params-read-text-kinds.r) κs) → params-read-text-reads.Post κs a r s → params-read-text-reads.Post κs a r′ s′
+    → r ≡ r′
+one-params-read-text κs a r r′ s s′ h h′ = one h h′
+
+pub one-params-read-number : (κs : Lifetimes.Lfts 1) (a : World.ArgsD params-read-number.signature κs) (r r′ : World.ResD params-read-number.signature κs)
+    (s s′ : Clauses.AtExit (K.endedOf 1 params-read-number-kinds.ps params-read-number-kinds.r) κs) → params-read-number-reads.Post κs a r s → params-read-number-reads.Post κs a r′ s′
+    → r ≡ r′
+one-params-read-number κs a r r′ s s′ h h′ = one h h′
+
 pub one-program-read-command : (κs : Lifetimes.Lfts 1) (a : World.ArgsD program-read-command.signature κs) (r r′ : World.ResD program-read-command.signature κs)
     (s s′ : Clauses.AtExit (K.endedOf 1 program-read-command-kinds.ps program-read-command-kinds.r) κs) → program-read-command-reads.Post κs a r s → program-read-command-reads.Post κs a r′ s′ → r ≡ r′
 one-program-read-command κs a r r′ s s′ h h′ = one h h′
@@ -286,17 +318,17 @@ pub one-judge-front : (κs : Lifetimes.Lfts 1) (a : World.ArgsD judge-front.sign
     (s s′ : Clauses.AtExit (K.endedOf 1 judge-front-kinds.ps judge-front-kinds.r) κs) → judge-front-reads.Post κs a r s → judge-front-reads.Post κs a r′ s′ → r ≡ r′
 one-judge-front κs a r r′ s s′ h h′ = one h h′
 
-pub one-judge-turned : (κs : Lifetimes.Lfts 0) (a : World.ArgsD judge-turned.signature κs) (r r′ : World.ResD judge-turned.signature κs)
-    (s s′ : Clauses.AtExit (K.endedOf 0 judge-turned-kinds.ps judge-turned-kinds.r) κs) → judge-turned-reads.Post κs a r s → judge-turned-reads.Post κs a r′ s′ → r ≡ r′
-one-judge-turned κs a r r′ s s′ h h′ = one h h′
+pub one-loops-turned : (κs : Lifetimes.Lfts 0) (a : World.ArgsD loops-turned.signature κs) (r r′ : World.ResD loops-turned.signature κs)
+    (s s′ : Clauses.AtExit (K.endedOf 0 loops-turned-kinds.ps loops-turned-kinds.r) κs) → loops-turned-reads.Post κs a r s → loops-turned-reads.Post κs a r′ s′ → r ≡ r′
+one-loops-turned κs a r r′ s s′ h h′ = one h h′
 
 pub one-judge-find : (κs : Lifetimes.Lfts 1) (a : World.ArgsD judge-find.signature κs) (r r′ : World.ResD judge-find.signature κs)
     (s s′ : Clauses.AtExit (K.endedOf 1 judge-find-kinds.ps judge-find-kinds.r) κs) → judge-find-reads.Post κs a r s → judge-find-reads.Post κs a r′ s′ → r ≡ r′
 one-judge-find κs a r r′ s s′ h h′ = one h h′
 
-pub one-judge-role-of : (κs : Lifetimes.Lfts 0) (a : World.ArgsD judge-role-of.signature κs) (r r′ : World.ResD judge-role-of.signature κs)
-    (s s′ : Clauses.AtExit (K.endedOf 0 judge-role-of-kinds.ps judge-role-of-kinds.r) κs) → judge-role-of-reads.Post κs a r s → judge-role-of-reads.Post κs a r′ s′ → r ≡ r′
-one-judge-role-of κs a r r′ s s′ h h′ = one h h′
+pub one-loops-role-of : (κs : Lifetimes.Lfts 0) (a : World.ArgsD loops-role-of.signature κs) (r r′ : World.ResD loops-role-of.signature κs)
+    (s s′ : Clauses.AtExit (K.endedOf 0 loops-role-of-kinds.ps loops-role-of-kinds.r) κs) → loops-role-of-reads.Post κs a r s → loops-role-of-reads.Post κs a r′ s′ → r ≡ r′
+one-loops-role-of κs a r r′ s s′ h h′ = one h h′
 
 pub one-perform-perform : (κs : Lifetimes.Lfts 0) (a : World.ArgsD perform-perform.signature κs) (r r′ : World.ResD perform-perform.signature κs)
     (s s′ : Clauses.AtExit (K.endedOf 0 perform-perform-kinds.ps perform-perform-kinds.r) κs) → perform-perform-reads.Post κs a r s → perform-perform-reads.Post κs a r′ s′ → r ≡ r′

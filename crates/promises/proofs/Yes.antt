@@ -14,9 +14,9 @@ use Rattle.reply.specs.declared.Status.the-variants.{Heard, Refused as Unheard}
 use Rattle.reader.specs.Read.{isNormal, rowsOf, refusedOr, named, readOf}
 use Rattle.reader.specs.declared.read.Reading.{Reading}
 use Rattle.reader.specs.declared.read.Reading.the-variants.{Query as QueryRead, Reset as ResetRead, Normal, Refused as Unread}
-use Rattle.program.specs.Bytes.{paramOf, firstOf as firstByte}
-use Rattle.program.specs.Text.{wrongOf, textOf}
-use Rattle.program.specs.Number.{digits, valueOf}
+use Rattle.params.specs.Bytes.{paramOf, firstOf as firstByte}
+use Rattle.params.specs.Text.{wrongOf, textOf}
+use Rattle.params.specs.Number.{digits, valueOf}
 use Rattle.program.specs.Table.{table, rowAt}
 use Rattle.program.specs.Command.{readOf as commandAt, rowOf, commandOf, parameterOf}
 use Rattle.program.specs.declared.Kind.{Kind}
@@ -24,8 +24,8 @@ use Rattle.program.specs.declared.Form.{Form}
 use Rattle.program.specs.declared.Form.the-variants.{Text, Bare, Number}
 use Rattle.program.specs.declared.Row.{Row}
 use Rattle.program.specs.declared.Row.the-variants.{Known, Unknown}
-use Rattle.program.specs.declared.Parameter.{Parameter}
-use Rattle.program.specs.declared.Parameter.the-variants.{Right, Wrong}
+use Rattle.params.specs.declared.Parameter.{Parameter}
+use Rattle.params.specs.declared.Parameter.the-variants.{Right, Wrong}
 use Rattle.program.specs.declared.Reading.{Reading as CommandReading}
 use Rattle.program.specs.declared.Reading.the-variants.{Good, Refused as NoCommand}
 use Rattle.loops.specs.Token.{tokOf, bad, get}

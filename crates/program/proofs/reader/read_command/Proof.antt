@@ -3,7 +3,7 @@
 use mathlib.Core.Path.{sym, ap, _∙_}
 use Prim.Native.Nat.{_+_}
 use lib.ListN.{drop}
-use Rattle.program.specs.Bytes.{paramOf}
+use Rattle.params.specs.Bytes.{paramOf}
 use Rattle.program.specs.Command.{commandOf, rowOf, readOf}
 use Rattle.program.specs.declared.Row.the-variants.{Unknown}
 use Rattle.program.proofs.Rows.{row-behind, row-no-caret, read-row, found-row}

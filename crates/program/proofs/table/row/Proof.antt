@@ -2,7 +2,7 @@
 use Prim.Native.Nat.{ℕ}
 use mathlib.Core.Path.{sym, ap, _∙_}
 use mathlib.Core.List.{[], _∷_}
-use Rattle.program.specs.Bytes.{caret}
+use Rattle.params.specs.Bytes.{caret}
 use Rattle.program.specs.Table.{table, rowAt}
 use Rattle.basis.proofs.Tests.{tests}
 use borrow.Author.Needs.{needs}

@@ -1,10 +1,10 @@
 -- A choice whose test is known, the connectives' values from their parts', and a range from its ends.
 use Prim.Native.Nat.{ℕ, _≤_}
 use mathlib.Core.Bool.{Bool, true, false}
-use mathlib.Core.Path.{_≡_, refl, sym, ap, _∙_}
+use mathlib.Core.Path.{_≡_, refl, ap, _∙_}
 use lib.Dec.{leb}
 use borrow.Author.Tests.{le-leb, leb-true}
-use Rattle.basis.specs.Choice.{when, _and_, _or_, within}
+use Rattle.basis.specs.Choice.{when, _and_, within}
 
 pub when-true : {A : Type 0} (t : Bool) (x y : A) → t ≡ true → when t x y ≡ x
 when-true t x y e = ap (λ (b : Bool). when b x y) e

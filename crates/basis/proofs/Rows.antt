@@ -1,14 +1,13 @@
 -- Laws of a table of refusals: the number that is given applies, no lower one does, and none is given only if none applies.
-use Prim.Native.Nat.{ℕ, zero, suc, _≤_, _<_}
+use Prim.Native.Nat.{ℕ, _≤_, _<_}
 use mathlib.Core.Bool.{Bool, true, false}
 use mathlib.Core.List.{List, [], _∷_}
-use mathlib.Core.Path.{_≡_, refl, sym, ap, _∙_, subst}
+use mathlib.Core.Path.{_≡_, refl, sym, ap}
 use native.Mathlib.Omega.{arith}
 use lib.Dec.{eqb}
 use borrow.Author.Tests.{eq-eqb, eqb-true}
-use Rattle.basis.specs.Choice.{when, _and_, _or_}
+use Rattle.basis.specs.Choice.{_and_, _or_}
 use Rattle.basis.specs.Rows.{Row, _if_, firstOf, applies, Rising, Passed}
-use Rattle.basis.proofs.Choices.{and-parts}
 
 -- where no number is given, no test holds
 pub all-passed : (rows : List Row) (m : ℕ) → Rising m rows → firstOf rows ≡ 0 → Passed rows

@@ -1,12 +1,9 @@
 -- The parts of a record in a lent image: the calls go by them.
-use Prim.Native.Nat.{ℕ, _+_, _-_, _≤_}
+use Prim.Native.Nat.{ℕ}
 use mathlib.Core.Bool.{Bool, true, false}
-use mathlib.Core.List.{List, [], _++_, append-nil}
-use mathlib.Core.Path.{_≡_, refl, sym, ap, _∙_}
-use native.Mathlib.Omega.{arith}
-use lib.ListN.{length, take, drop, getD, drop-of-length-le}
-use lib.Seq.{take-all}
-use borrow.Rule.Slice.PartMut.{putMid, postOf, post-is}
+use mathlib.Core.List.{List}
+use mathlib.Core.Path.{_≡_, sym, ap, _∙_}
+use lib.ListN.{length, getD}
 use Rattle.collect.specs.declared.Collection.{Collection}
 use Rattle.machine.specs.Sound.{soundOf as runSound}
 use Rattle.machine.specs.Step.{stepOf as runStep}
@@ -19,10 +16,8 @@ use Rattle.hear.specs.declared.Heard.{Heard}
 use Rattle.sign.specs.Sound.{framedOf}
 use Rattle.sign.specs.Step.{stepOf}
 use Rattle.sign.proofs.Stepping.{steppedOf, framed-steps, unframed-steps}
-use Rattle.image.specs.Layout.{placeBytes, frontBytes, imageOf, collectionOf, runOf, recordOf, runIn, placesIn, frontIn}
-use Rattle.basis.proofs.Bytes.{cut-length}
-use Rattle.image.proofs.Copies.{filled}
-use Rattle.image.proofs.Parts.{record-run, run-over, front-over, places-over, body-places}
+use Rattle.image.specs.Layout.{imageOf, collectionOf, runOf, recordOf, runIn, placesIn}
+use Rattle.image.proofs.Parts.{record-run, run-over, places-over}
 
 -- an image's own places and settings laid over it again: its run, and so the image of its record
 pub places-run : (b : List ℕ) (r : Run) → length b ≡ 186 → r ≡ runOf b → placesIn r b ≡ runIn r b

@@ -2,7 +2,7 @@
 use Prim.Native.Nat.{ℕ, _≤_}
 use mathlib.Core.List.{List, [], _∷_}
 use mathlib.Core.Path.{_≡_, refl, sym, ap, subst, _∙_}
-use lib.ListN.{length, getD, replicate}
+use lib.ListN.{length, getD}
 use Rattle.basis.specs.Bytes.{laid}
 use Rattle.judge.specs.declared.Verdict.{Verdict}
 use Rattle.judge.specs.declared.Verdict.the-variants.{Finite, Endless, Refused as NoProgram}
@@ -24,7 +24,6 @@ use Rattle.image.specs.Layout.{imageOf, recordOf, runOf, runIn, frontIn}
 use Rattle.image.proofs.Parts.{record-run, front-over}
 use Rattle.words.specs.Told.{toldIn, answerRow, firstOr}
 use Rattle.words.proofs.Lays.{told-room}
-use Rattle.answers.specs.Says.{receivedBytes}
 use Rattle.held.specs.Laid.{imageRow, lent, keptOf, startsIn, heardIn, heardBytes}
 use Rattle.held.proofs.Lays.{nothing-told}
 use Rattle.cabi.specs.Calls.{receiveNo, receiveImage, receiveAnswer}

@@ -13,7 +13,7 @@ use borrow.Author.Tests.{eqb-true, le-leb, lt-leb, ne-eqb, eq-eqb}
 use Rattle.basis.specs.Bytes.{laid}
 use Rattle.basis.specs.Choice.{when, _and_, _or_}
 use Rattle.basis.proofs.Choices.{and-parts, when-true, when-false}
-use Rattle.machine.specs.Sound.{zerosOf}
+use Rattle.room.specs.Room.{zerosOf}
 use Rattle.collect.specs.Slots.{ruleOf, oneOf, heldOf, slotsOf, joinedOf}
 use Rattle.collect.proofs.Turns.{rule-most, one-most}
 

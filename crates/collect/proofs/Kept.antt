@@ -9,9 +9,9 @@ use lib.ListN.{length, getD, take, drop, set, length-drop}
 use lib.Seq.{drop-append-seam, drop-append-le, take-append-le, drop-drop, drop-at, take-take, length-take-le}
 use borrow.Author.Tests.{ne-eqb}
 use Rattle.basis.specs.Bytes.{laid}
-use Rattle.basis.specs.Choice.{when, _and_, _or_}
+use Rattle.basis.specs.Choice.{when, _and_}
 use Rattle.basis.proofs.Choices.{and-true, and-parts}
-use Rattle.machine.specs.Sound.{zerosOf}
+use Rattle.room.specs.Room.{zerosOf}
 use Rattle.collect.specs.Slots.{ruleOf, oneOf, heldOf, slotsOf}
 use Rattle.collect.proofs.Rooms.{laid-on}
 use Rattle.collect.proofs.Turns.{drop-take, rule-most}

@@ -6,7 +6,7 @@ use mathlib.Core.Path.{_≡_, refl, sym, ap, _∙_}
 use native.Mathlib.Omega.{arith}
 use lib.ListN.{length, take, drop, length-drop, take-append-drop}
 use lib.Seq.{take-add, length-take-le}
-use Rattle.machine.specs.Sound.{zerosOf}
+use Rattle.room.specs.Room.{zerosOf}
 use Rattle.collect.specs.Slots.{slotsOf, packetsOf}
 use Rattle.collect.specs.declared.Collection.{Collection}
 use Rattle.collect.proofs.Turns.{rule-most}

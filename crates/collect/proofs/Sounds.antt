@@ -7,7 +7,7 @@ use native.Mathlib.Omega.{arith}
 use lib.Dec.{eqb, ltb, leb}
 use lib.ListN.{getD, drop}
 use borrow.Author.Tests.{ltb-true, leb-true, eqb-false, ne-eqb, lt-ltb, le-leb, not-true}
-use Rattle.basis.specs.Choice.{when, _and_, _or_}
+use Rattle.basis.specs.Choice.{when, _and_}
 use Rattle.basis.proofs.Choices.{and-parts, and-true, when-false}
 use Rattle.collect.specs.Slots.{ruleOf, heldOf, slotsOf, begunOf, noneOf}
 use Rattle.collect.specs.Sound.{idOf, someOf, soundOf}

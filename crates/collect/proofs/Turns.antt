@@ -12,7 +12,7 @@ use borrow.Author.Tests.{leb-true, le-leb, eqb-true}
 use Rattle.basis.specs.Choice.{when, _and_, _or_}
 use Rattle.basis.proofs.Bytes.{cut-length}
 use Rattle.basis.proofs.Choices.{when-true}
-use Rattle.machine.specs.Sound.{zerosOf}
+use Rattle.room.specs.Room.{zerosOf}
 use Rattle.collect.specs.Slots.{ruleOf, oneOf, heldOf, slotsOf}
 
 -- no slot holds more than 14 bytes

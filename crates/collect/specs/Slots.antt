@@ -7,7 +7,7 @@ use lib.Dec.{eqb, ltb, leb}
 use lib.ListN.{length, take, drop, set, replicate}
 use Rattle.basis.specs.Bytes.{laid}
 use Rattle.basis.specs.Choice.{when, _and_, _or_}
-use Rattle.machine.specs.Sound.{zerosOf}
+use Rattle.room.specs.Room.{zerosOf}
 use Rattle.collect.specs.declared.Collection.{Collection}
 
 -- what may be held at a position: nothing from N on; 1 to 14 bytes at the last; 14 before it; and nothing anywhere (0)

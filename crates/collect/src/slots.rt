@@ -1,10 +1,10 @@
 // Which collections are sound. Answers to 01's last paragraph of "Numbers for no": "the collected packets obey the packet rules, are
 // of one total, at least one and not all there, and their ID isn't the last completed; unused room holds zeros".
 use crate::Collection;
-use machine::clean;
+use room::clean;
 ghost use mathlib.Core.Path.{_≡_};
 ghost use lib.ListN.{length, drop};
-ghost use Rattle.machine.specs.Sound.{zerosOf};
+ghost use Rattle.room.specs.Room.{zerosOf};
 ghost use Rattle.collect.specs.Slots.{ruleOf, oneOf, heldOf, slotsOf};
 ghost use Rattle.collect.specs.Sound.{soundOf};
 

@@ -1,13 +1,13 @@
 -- An accepted body's commands are exactly those of its tree, its verdict is the tree's ending, and its loops nest no deeper than
 -- there was room: so nobody has to believe how the tree is built.
-use Prim.Native.Nat.{ℕ, zero, suc, _+_, _≤_, _<_}
-use mathlib.Core.List.{List, [], _∷_, _++_, map}
-use mathlib.Core.Bool.{Bool, true, false}
-use mathlib.Core.Path.{_≡_, refl, sym, ap, _∙_}
+use Prim.Native.Nat.{ℕ, zero, suc, _+_}
+use mathlib.Core.List.{List, [], _∷_, map}
+use mathlib.Core.Bool.{true, false}
+use mathlib.Core.Path.{_≡_, refl, sym, ap}
 use native.Mathlib.Omega.{arith}
 use lib.ListN.{length}
-use Rattle.loops.specs.Token.{Act, Part, act, rep, close, forever, again, Tok, good, bad, sizeOf}
-use Rattle.judge.specs.Verdict.{judge, endOf}
+use Rattle.loops.specs.Token.{Act, Part, act, rep, close, forever, again, Tok, good, bad}
+use Rattle.judge.specs.Verdict.{judge}
 use Rattle.loops.specs.declared.Open.{Open}
 use Rattle.judge.specs.declared.Verdict.{Verdict}
 use Rattle.judge.specs.declared.Verdict.the-variants.{Finite, Endless, Refused}

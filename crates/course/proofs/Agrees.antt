@@ -1,6 +1,6 @@
 -- What a program costs goes by pace and scans alone: settings that agree in these two cost the same.
-use Prim.Native.Nat.{ℕ, zero, suc, _+_}
-use mathlib.Core.Path.{_≡_, refl, sym, ap, _∙_}
+use Prim.Native.Nat.{ℕ}
+use mathlib.Core.Path.{_≡_, refl, ap, _∙_}
 use Rattle.perform.specs.Price.{doingOf, scansOf, millisOf, answerOf}
 use Rattle.perform.specs.Settings.{changed, changesOf}
 use Rattle.perform.specs.declared.settings.Settings.{Settings}
@@ -8,7 +8,7 @@ use Rattle.perform.specs.declared.price.Performed.{Performed}
 use Rattle.loops.specs.Token.{Act, Part, act, rep, close, forever, again}
 use Rattle.course.specs.Steps.{saysOf, setsOf}
 use Rattle.course.specs.Tree.{Block, stop, one, loop}
-use Rattle.course.specs.Price.{ones, scans, millis, firstThen, leavesOf, priceOf}
+use Rattle.course.specs.Price.{ones, scans, millis, leavesOf, priceOf}
 
 abbrev pub Agree : Settings → Settings → Type 0
 Agree σ τ = (σ .pace ≡ τ .pace) × (σ .scans ≡ τ .scans)

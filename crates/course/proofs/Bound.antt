@@ -1,8 +1,8 @@
 -- The steps of a program whose loops don't nest: at most 3,961 for 84 bytes. A command takes two bytes at least, and the dearest
 -- loop spends its `L99` and `E` on 99 passes: 99 * 84 - 394 is twice 3,961.
-use Prim.Native.Nat.{ℕ, zero, suc, _+_, _-_, _*_, _≤_, _<_}
+use Prim.Native.Nat.{ℕ, zero, suc, _+_, _-_, _*_, _≤_}
 use mathlib.Core.List.{List, [], _∷_}
-use mathlib.Core.Path.{_≡_, refl, sym, ap, _∙_}
+use mathlib.Core.Path.{_≡_}
 use mathlib.Core.Logic.{_⊎_, inl, inr, ⊎-elim, dite}
 use native.Mathlib.Decide.{decLt}
 use native.Mathlib.Nat.{mul-le-mul-left, mul-le-mul-right}
@@ -11,7 +11,7 @@ use Rattle.perform.specs.declared.settings.Settings.{Settings}
 use Rattle.loops.specs.Token.{Part, act, rep, close, Tok, good, sizeOf}
 use Rattle.course.specs.Steps.{setsOf}
 use Rattle.course.specs.Tree.{Block, stop, one, loop, flat}
-use Rattle.course.specs.Price.{ones, leavesOf, priceOf, firstThen}
+use Rattle.course.specs.Price.{ones, leavesOf, priceOf}
 use Rattle.course.proofs.Accepts.{Depth}
 use Rattle.loops.proofs.Values.{Loops}
 use Rattle.course.proofs.Runs.{At, past, at-past}

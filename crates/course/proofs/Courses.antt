@@ -1,6 +1,6 @@
 -- From runs to counted steps: Ready after exactly as many steps as commands, and not sooner; what comes back is never Ready.
 use Prim.Native.Nat.{ℕ, zero, suc, _+_, _-_, _≤_, _<_}
-use mathlib.Core.List.{List, [], _∷_, _++_, map}
+use mathlib.Core.List.{List, _∷_, map}
 use mathlib.Core.Path.{_≡_, refl, sym, ap, _∙_, subst}
 use mathlib.Core.Logic.{dite}
 use native.Mathlib.Decide.{decLt}
@@ -9,7 +9,7 @@ use lib.ListN.{length}
 use Rattle.perform.specs.declared.settings.Settings.{Settings}
 use Rattle.perform.specs.declared.price.Performed.{Performed}
 use Rattle.loops.specs.Token.{Part, Tok, good}
-use Rattle.course.specs.Steps.{Frame, State, ready, at, Said, did, Busy, wentAt, saidAt, saysOf, goesOf, nextOf, saidOf, afterOf, answersOf}
+use Rattle.course.specs.Steps.{Frame, State, at, Said, did, Busy, wentAt, saidAt, saysOf, goesOf, nextOf, saidOf, afterOf, answersOf}
 use Rattle.course.proofs.Runs.{Runs, done, more}
 
 module _ (g : ℕ → Tok) (len : ℕ) where

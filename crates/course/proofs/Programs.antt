@@ -1,21 +1,21 @@
 -- What an accepted body is: its length, its tree, and that the tree's commands stand in it, from its first byte to its end.
-use Prim.Native.Nat.{ℕ, zero, suc, _+_, _≤_, _<_}
+use Prim.Native.Nat.{ℕ, _+_, _≤_, _<_}
 use mathlib.Core.List.{List, [], _∷_, map}
 use mathlib.Core.Bool.{Bool, true, false}
-use mathlib.Core.Path.{_≡_, refl, sym, ap, _∙_}
+use mathlib.Core.Path.{_≡_, refl}
 use native.Mathlib.Omega.{arith}
 use lib.Dec.{eqb, ltb}
 use lib.ListN.{length, getD}
 use borrow.Author.Tests.{ltb-false, eqb-true}
 use Rattle.basis.specs.Choice.{when}
 use Rattle.params.specs.Bytes.{caret}
-use Rattle.loops.specs.Token.{Part, rep, Tok, good, sizeOf, get, tokensOf}
-use Rattle.judge.specs.Verdict.{judge, commandsOf, judgeOf}
+use Rattle.loops.specs.Token.{Tok, good, get, tokensOf}
+use Rattle.judge.specs.Verdict.{commandsOf, judgeOf}
 use Rattle.judge.specs.declared.Verdict.{Verdict}
 use Rattle.judge.specs.declared.Verdict.the-variants.{Finite, Endless, Refused}
 use Rattle.loops.proofs.Tokens.{get-two}
-use Rattle.course.specs.Tree.{Block, Ending, Pending, Tree, Built, buildOf, treeOf, flat, flatEnd, partsOf}
-use Rattle.course.proofs.Accepts.{Yes, Accepted, accepted, tail, shape, Depth}
+use Rattle.course.specs.Tree.{Block, Ending, Pending, Tree, buildOf, treeOf, flat, flatEnd, partsOf}
+use Rattle.course.proofs.Accepts.{Yes, Accepted, accepted, shape, Depth}
 use Rattle.course.proofs.Runs.{At}
 use Rattle.course.proofs.Stands.{at-tokens}
 

@@ -1,14 +1,13 @@
 -- What is stepped is what is unrolled: a block that stands at a place is run, command by command, to the place behind it.
 use Prim.Native.Nat.{ℕ, zero, suc, _+_, _≤_, _<_}
-use mathlib.Core.List.{List, [], _∷_, _++_, append-assoc}
-use mathlib.Core.Path.{_≡_, refl, sym, ap, _∙_, subst}
+use mathlib.Core.List.{List, [], _∷_, _++_}
+use mathlib.Core.Path.{_≡_, sym, subst}
 use native.Mathlib.Omega.{arith}
 use borrow.Author.Tests.{lt-ltb, le-ltb}
 use Rattle.basis.proofs.Choices.{when-true, when-false}
-use Rattle.perform.specs.Price.{answerOf}
 use Rattle.perform.specs.declared.settings.Settings.{Settings}
 use Rattle.perform.specs.declared.price.Performed.{Performed}
-use Rattle.loops.specs.Token.{Part, act, rep, close, forever, again, Tok, good, bad, sizeOf}
+use Rattle.loops.specs.Token.{Part, act, rep, close, Tok, good, sizeOf}
 use Rattle.course.specs.Steps.{Frame, frame, State, ready, at, settle, saysOf, setsOf, goesOf}
 use Rattle.course.specs.Tree.{Block, stop, one, loop, times, exitOf, passes, unrolled, flat}
 

@@ -1,15 +1,15 @@
 -- What is unrolled costs its price, by any measure: two readings of a loop are enough.
-use Prim.Native.Nat.{ℕ, zero, suc, _+_, _*_, _≤_}
+use Prim.Native.Nat.{ℕ, zero, suc, _+_, _*_}
 use mathlib.Core.List.{List, [], _∷_, _++_}
 use mathlib.Core.Path.{_≡_, refl, sym, ap, _∙_}
 use native.Mathlib.Omega.{arith}
 use Rattle.perform.specs.Price.{answerOf}
 use Rattle.perform.specs.declared.settings.Settings.{Settings}
 use Rattle.perform.specs.declared.price.Performed.{Performed}
-use Rattle.loops.specs.Token.{act, rep, close}
+use Rattle.loops.specs.Token.{act, close}
 use Rattle.course.specs.Steps.{saysOf, setsOf}
 use Rattle.course.specs.Tree.{Block, stop, one, loop, times, exitOf, passes, unrolled}
-use Rattle.course.specs.Price.{sumBy, firstThen, leavesOf, priceOf}
+use Rattle.course.specs.Price.{sumBy, leavesOf, priceOf}
 use Rattle.course.proofs.Changes.{Counted, exit-leaves, times-exit, leaves-twice}
 
 module _ (f : Performed → ℕ) where

@@ -1,25 +1,24 @@
 -- Demand 3 over the definitions: an accepted program without an endless ending is Ready after exactly as many steps as it has
 -- commands unrolled and not sooner, its answers are those commands, every sum over them is its price, and the steps never pass
 -- 3,961; an endless one is never Ready.
-use Prim.Native.Nat.{ℕ, zero, suc, _+_, _≤_, _<_}
+use Prim.Native.Nat.{ℕ, _+_, _≤_, _<_}
 use mathlib.Core.List.{List, [], _∷_, _++_, map}
-use mathlib.Core.Path.{_≡_, refl, sym, ap, _∙_, subst}
+use mathlib.Core.Path.{_≡_, refl, sym, _∙_, subst}
 use native.Mathlib.Omega.{arith}
 use lib.ListN.{length, length-append}
 use Rattle.perform.specs.declared.settings.Settings.{Settings}
 use Rattle.perform.specs.declared.price.Performed.{Performed}
-use Rattle.loops.specs.Token.{Part, act, rep, close, forever, again, Tok, good, sizeOf, get, tokensOf}
+use Rattle.loops.specs.Token.{Part, act, rep, close, forever, again, good, get}
 use Rattle.judge.specs.Verdict.{judgeOf}
-use Rattle.judge.specs.declared.Verdict.{Verdict}
 use Rattle.judge.specs.declared.Verdict.the-variants.{Finite, Endless}
 use Rattle.loops.proofs.Tokens.{get-two, get-within}
-use Rattle.course.specs.Steps.{Frame, frame, State, ready, at, settle, Said, did, Busy, saysOf, afterOf, answersOf, started}
+use Rattle.course.specs.Steps.{frame, State, ready, at, settle, did, Busy, saysOf, afterOf, answersOf, started}
 use Rattle.course.specs.Tree.{Block, stop, one, loop, Ending, ends, starts, ever, exitOf, unrolled, flat, flatEnd}
 use Rattle.course.specs.Price.{sumBy, ones, priceOf}
-use Rattle.course.proofs.Accepts.{shape, Depth}
+use Rattle.course.proofs.Accepts.{shape}
 use Rattle.course.proofs.Bound.{most-steps}
 use Rattle.course.proofs.Changes.{Counted}
-use Rattle.course.proofs.Courses.{runs-after, runs-busy, runs-answers, Returns, never, led}
+use Rattle.course.proofs.Courses.{runs-after, runs-busy, runs-answers, never, led}
 use Rattle.loops.proofs.Values.{get-loop}
 use Rattle.course.proofs.Programs.{treeIn, Program, program}
 use Rattle.course.proofs.Runs.{Runs, done, At, past, at-past, tick, runs-append, settle-ready, block-runs}

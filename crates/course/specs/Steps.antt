@@ -4,10 +4,8 @@
 -- then answers Idle and zeros. Pace and scan setting last until changed or reset."
 use Prim.Native.Nat.{ℕ, zero, suc, _+_}
 use mathlib.Core.List.{List, [], _∷_}
-use mathlib.Core.Bool.{Bool, true, false}
 use lib.Dec.{ltb}
 use Rattle.basis.specs.Choice.{when}
-use Rattle.program.specs.declared.Kind.{Kind}
 use Rattle.program.specs.declared.Kind.the-variants.{L, E, F, R}
 use Rattle.perform.specs.Price.{answerOf}
 use Rattle.perform.specs.Settings.{behindOf}

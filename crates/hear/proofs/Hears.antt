@@ -1,5 +1,5 @@
 -- Bytes that come to a sound frame are judged by what is read of them, and what is released is a whole collection.
-use Prim.Native.Nat.{ℕ, _-_, _≤_}
+use Prim.Native.Nat.{ℕ, _≤_}
 use mathlib.Core.List.{List}
 use mathlib.Core.Bool.{Bool, true, false, not}
 use mathlib.Core.Path.{_≡_, refl, sym, ap, _∙_, subst}
@@ -7,7 +7,7 @@ use native.Mathlib.Omega.{arith}
 use lib.Dec.{eqb, leb}
 use lib.ListN.{length, getD, take, drop}
 use borrow.Author.Tests.{eqb-true, leb-true}
-use Rattle.basis.specs.Choice.{when, _and_, _or_}
+use Rattle.basis.specs.Choice.{when, _and_}
 use Rattle.basis.proofs.Choices.{when-true, when-false, and-parts}
 use Rattle.reply.specs.Reply.{isLast}
 use Rattle.reader.specs.Read.{readOf}

@@ -1,22 +1,20 @@
 -- Laws of a body judged command by command, as the code does it: from each place the verdict is that of the move there.
-use Prim.Native.Nat.{ℕ, zero, suc, _+_, _≤_, _<_}
-use mathlib.Core.Path.{_≡_, refl, sym, ap, subst, _∙_}
+use Prim.Native.Nat.{ℕ, _+_, _≤_, _<_}
+use mathlib.Core.Path.{_≡_, refl, sym, ap, _∙_}
 use mathlib.Core.Bool.{Bool, true, false}
 use mathlib.Core.List.{List, [], _∷_}
 use native.Mathlib.Omega.{arith}
-use borrow.Author.Tests.{eq-eqb, ne-eqb, eqb-true, eqb-false, le-leb, leb-true, leb-false, lt-ltb, le-ltb, ltb-false}
-use lib.Dec.{eqb, ltb, leb}
+use borrow.Author.Tests.{eq-eqb, ne-eqb, ltb-false}
+use lib.Dec.{eqb, ltb}
 use lib.ListN.{length, getD}
 use Rattle.basis.specs.Choice.{when, _and_}
-use Rattle.basis.proofs.Choices.{and-parts, when-true, when-false}
 use Rattle.params.specs.Bytes.{caret}
 use Rattle.program.specs.declared.Reading.{Reading}
 use Rattle.loops.specs.Token.{Part, act, rep, close, forever, again, Tok, good, bad, sizeOf, get, chain, tokensOf}
-use Rattle.loops.specs.Structure.{Structure, broken, kept, structureOf, roleIn, opened, Move, stop, go, moved, moveOf}
-use Rattle.loops.specs.Flow.{roomOf, endedOf, opensOf, flowOf, turnOf}
+use Rattle.loops.specs.Structure.{Structure, broken, kept, structureOf, roleIn, opened, go, moved, moveOf}
+use Rattle.loops.specs.Flow.{roomOf, endedOf, opensOf, turnOf}
 use Rattle.judge.specs.Verdict.{endOf, judge, commandsOf, frontOf, judgeOf}
 use Rattle.judge.specs.Standing.{insideOf, stood, standAt, orElse, ofAccepted, seenOf}
-use Rattle.judge.specs.declared.Opening.{Opening}
 use Rattle.judge.specs.declared.Opening.the-variants.{Begun, Refused as TooSoon}
 use Rattle.loops.specs.declared.Open.{Open}
 use Rattle.judge.specs.declared.Standing.{Standing}

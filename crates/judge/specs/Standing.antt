@@ -3,7 +3,7 @@
 -- number inside a loop (at its closing command too), both 0 outside".
 use Prim.Native.Nat.{ℕ}
 use mathlib.Core.List.{List, [], _∷_}
-use mathlib.Core.Bool.{Bool, true, false}
+use mathlib.Core.Bool.{Bool, false}
 use lib.Dec.{eqb}
 use Rattle.basis.specs.Choice.{when}
 use Rattle.program.specs.Command.{readOf}

@@ -1,15 +1,14 @@
 -- Laws of one command judged: the rule of loops by role and by where judging stands, and a good command's size.
-use Prim.Native.Nat.{ℕ, zero, suc, _+_, _-_, _≤_, _<_}
+use Prim.Native.Nat.{ℕ, suc, _+_}
 use mathlib.Core.Path.{_≡_, refl, sym, ap, subst, _∙_}
 use mathlib.Core.Bool.{Bool, true, false}
 use mathlib.Core.List.{List, [], _∷_}
 use native.Mathlib.Omega.{arith}
 use borrow.Author.Tests.{eqb-true}
 use lib.Dec.{eqb}
-use lib.ListN.{length, drop}
-use Rattle.basis.specs.Choice.{when, _and_}
+use lib.ListN.{drop}
+use Rattle.basis.specs.Choice.{_and_}
 use Rattle.program.specs.Command.{readOf}
-use Rattle.program.specs.Table.{table, rowAt}
 use Rattle.program.specs.declared.Kind.{Kind}
 use Rattle.program.specs.declared.Form.{Form}
 use Rattle.program.specs.declared.Form.the-variants.{Text, Bare, Number}
@@ -18,15 +17,14 @@ use Rattle.program.specs.declared.Reading.{Reading}
 use Rattle.program.specs.declared.Reading.the-variants.{Good, Refused}
 use Rattle.basis.proofs.Choices.{and-parts, when-true, when-false}
 use Rattle.program.proofs.Rows.{row-holds}
-use Rattle.program.proofs.Laws.{Made, made, at-least-two, bare-ends}
-use Rattle.loops.specs.Token.{roleOf, Act, Part, act, rep, close, forever, again, Tok, good, bad, sizeOf, partOf, actOf, tokOf, get}
-use Rattle.loops.specs.Structure.{Structure, broken, kept, structureOf, roleIn, opened, Move, stop, go, moved, moveOf}
-use Rattle.loops.specs.Flow.{roomOf, endedOf, opensOf, flowOf, ruleOf, turnOf, hereOf, heardOf, turnedOf}
+use Rattle.program.proofs.Laws.{made, at-least-two, bare-ends}
+use Rattle.loops.specs.Token.{roleOf, Tok, good, sizeOf, partOf, actOf, tokOf, get}
+use Rattle.loops.specs.Structure.{Structure, broken, kept, structureOf, roleIn, opened, go, moved, moveOf}
+use Rattle.loops.specs.Flow.{roomOf, endedOf, opensOf, flowOf, ruleOf, turnOf, hereOf, turnedOf}
 use Rattle.loops.specs.declared.Role.{Role}
 use Rattle.loops.specs.declared.Role.the-variants.{Plain, Repeat, Close, Forever, Again}
 use Rattle.loops.specs.declared.Open.{Open}
 use Rattle.loops.specs.declared.Flow.{Flow}
-use Rattle.loops.specs.declared.Flow.the-variants.{Free, Within, Ended}
 use Rattle.loops.specs.declared.Rule.{Rule}
 use Rattle.loops.specs.declared.Rule.the-variants.{Broken, Kept}
 use Rattle.loops.specs.declared.Turn.{Turn}

@@ -1,6 +1,6 @@
 -- What a command's values are held to: the number and size of an `L`, and an act's number, text and width.
 use Prim.Native.Nat.{ℕ, _+_, _*_, _-_, _≤_}
-use mathlib.Core.Path.{_≡_, refl, sym, ap, subst, _∙_}
+use mathlib.Core.Path.{_≡_, refl, subst}
 use mathlib.Core.List.{List}
 use native.Mathlib.Omega.{arith}
 use lib.ListN.{length, take, drop}
@@ -8,14 +8,13 @@ use Rattle.program.specs.Command.{readOf}
 use Rattle.measure.specs.Width.{widthOf}
 use Rattle.program.specs.declared.Kind.{Kind}
 use Rattle.program.specs.declared.Kind.the-variants.{II, IA, IB, S, L, E, F, R, XS, XF, P, Scans, W, XD, XB, Y}
-use Rattle.program.specs.declared.Form.{Form}
 use Rattle.program.specs.declared.Command.{Command}
 use Rattle.program.specs.declared.Reading.{Reading}
 use Rattle.program.specs.declared.Reading.the-variants.{Good, Refused}
 use Rattle.program.proofs.Rows.{row-plain}
-use Rattle.program.proofs.Laws.{Made, made, at-least-two}
+use Rattle.program.proofs.Laws.{made, at-least-two}
 use Rattle.program.proofs.Ranges.{formOf, InRange, number-in-range, text-within, loop-digits}
-use Rattle.loops.specs.Token.{roleOf, Act, Part, act, rep, close, forever, again, Tok, good, bad, partOf, actOf, tokOf, get}
+use Rattle.loops.specs.Token.{roleOf, Act, act, rep, good, partOf, actOf, tokOf, get}
 use Rattle.loops.specs.declared.Role.{Role}
 use Rattle.loops.specs.declared.Role.the-variants.{Plain, Repeat, Close, Forever, Again}
 

@@ -1,7 +1,7 @@
 -- What the step's code needs of a good command: its number is a byte, and its answer is that of its kind.
 use Prim.Native.Nat.{ℕ, _+_, _≤_}
 use mathlib.Core.List.{List}
-use mathlib.Core.Path.{_≡_, refl, sym, ap, _∙_, subst}
+use mathlib.Core.Path.{_≡_, refl, ap, subst}
 use native.Mathlib.Omega.{arith}
 use lib.ListN.{take, drop}
 use Rattle.measure.specs.Width.{widthOf}

@@ -1,11 +1,11 @@
 -- Runs follow the course of their program: the record after k steps is the record of the state after k steps, and so are the
 -- answers; a body just started is sound where it is accepted.
-use Prim.Native.Nat.{ℕ, zero, suc, _+_, _-_, _≤_, _<_}
+use Prim.Native.Nat.{ℕ, zero, suc, _≤_, _<_}
 use mathlib.Core.List.{List, [], _∷_, map}
 use mathlib.Core.Bool.{Bool, true, false}
 use mathlib.Core.Path.{_≡_, refl, sym, ap, _∙_, subst}
 use native.Mathlib.Omega.{arith}
-use lib.ListN.{length, take, drop, replicate, length-replicate}
+use lib.ListN.{length, drop, replicate}
 use Rattle.basis.specs.Bytes.{laid}
 use Rattle.basis.proofs.Laid.{take-laid, drop-laid, length-laid}
 use Rattle.perform.specs.Settings.{soundOf as settingsSound}
@@ -13,20 +13,20 @@ use Rattle.perform.specs.declared.settings.Settings.{Settings}
 use Rattle.loops.specs.Token.{get}
 use Rattle.judge.specs.Verdict.{judgeOf}
 use Rattle.grammar.specs.Grammar.{acceptedAs}
-use Rattle.grammar.specs.Reach.{Reach, start}
-use Rattle.judge.specs.Standing.{insideOf, standOf}
+use Rattle.grammar.specs.Reach.{start}
+use Rattle.judge.specs.Standing.{standOf}
 use Rattle.judge.specs.declared.Standing.{Standing}
 use Rattle.judge.specs.declared.Standing.the-variants.{Outside}
-use Rattle.grammar.proofs.Standings.{At, at-stands}
-use Rattle.course.specs.Steps.{Frame, frame, State, ready, at, Said, nextOf, saidOf, afterOf, answersOf, started, settle}
+use Rattle.grammar.proofs.Standings.{at-stands}
+use Rattle.course.specs.Steps.{Frame, State, ready, at, nextOf, saidOf, afterOf, answersOf, started}
 use Rattle.course.proofs.Programs.{accepting}
-use Rattle.course.proofs.Runs.{settle-at}
-use Rattle.machine.specs.Sound.{zerosOf, bodyOf, heldOf, soundOf}
+use Rattle.room.specs.Room.{zerosOf}
+use Rattle.machine.specs.Sound.{bodyOf, heldOf, soundOf}
 use Rattle.machine.specs.Step.{outside, framesOf, loopOf, readyOf, runOf, sayOf, stepOf, afterRun, saidRun, startedOf}
 use Rattle.machine.specs.declared.Answer.{Answer}
 use Rattle.machine.specs.declared.Run.{Run}
 use Rattle.machine.specs.declared.Stepped.{Stepped}
-use Rattle.machine.proofs.Keeps.{Normal, Kept, run-keeps, step-ready, step-busy}
+use Rattle.machine.proofs.Keeps.{Kept, run-keeps, step-ready, step-busy}
 use Rattle.machine.proofs.Reached.{accepted-yes}
 use Rattle.machine.proofs.Sounds.{running}
 

@@ -1,49 +1,39 @@
 -- A step keeps a sound run sound.
-use Prim.Native.Nat.{ℕ, zero, suc, _+_, _-_, _≤_, _<_}
+use Prim.Native.Nat.{ℕ, zero, suc, _+_, _≤_, _<_}
 use mathlib.Core.List.{List, [], _∷_}
-use mathlib.Core.Bool.{Bool, true, false, not}
+use mathlib.Core.Bool.{Bool, true, false}
 use mathlib.Core.Path.{_≡_, refl, sym, ap, _∙_, subst}
 use mathlib.Core.Logic.{dite}
 use native.Mathlib.Decide.{decLt}
 use native.Mathlib.Omega.{arith}
 use lib.Dec.{eqb, ltb, leb}
-use lib.ListN.{length, take, drop, length-take}
+use lib.ListN.{length}
 use lib.Seq.{length-take-le}
 use borrow.Author.Tests.{le-leb, lt-leb, eq-eqb, ne-eqb, eqb-true, eqb-false}
 use Rattle.basis.specs.Choice.{when, _and_}
 use Rattle.basis.proofs.Choices.{when-true, when-false, and-parts, and-true, within-parts, within-true}
-use Rattle.basis.proofs.Tests.{tests}
-use Rattle.program.specs.Command.{readOf}
-use Rattle.program.specs.declared.Kind.{Kind}
-use Rattle.program.specs.declared.Command.{Command}
-use Rattle.program.specs.declared.Reading.{Reading}
-use Rattle.program.specs.declared.Reading.the-variants.{Good, Refused as Bad}
-use Rattle.program.proofs.Ranges.{formOf, InRange, number-in-range}
-use Rattle.perform.specs.Settings.{soundOf as settingsSound, behindOf}
+use Rattle.perform.specs.Settings.{soundOf as settingsSound}
 use Rattle.perform.specs.declared.settings.Settings.{Settings}
-use Rattle.loops.specs.Token.{roleOf, Act, Part, act, rep, close, forever, again, Tok, good, bad, sizeOf, partOf, actOf, tokOf, get}
+use Rattle.loops.specs.Token.{Part, act, rep, close, forever, again, Tok, good, sizeOf, get}
 use Rattle.loops.specs.Structure.{structureOf, roleIn, opened, kept}
 use Rattle.judge.specs.Standing.{insideOf, standOf}
 use Rattle.grammar.specs.Reach.{Reach, start, past}
 use Rattle.loops.specs.declared.Open.{Open}
-use Rattle.loops.specs.declared.Role.{Role}
-use Rattle.loops.specs.declared.Role.the-variants.{Plain, Repeat, Close, Forever, Again}
 use Rattle.judge.specs.declared.Standing.{Standing}
-use Rattle.judge.specs.declared.Standing.the-variants.{Nowhere, Outside, Inside}
+use Rattle.judge.specs.declared.Standing.the-variants.{Outside, Inside}
 use Rattle.grammar.proofs.Standings.{At, at-stands}
-use Rattle.loops.proofs.Tokens.{get-two, get-within}
-use Rattle.course.specs.Steps.{Frame, frame, State, ready, at, settle, setsOf, closed, returned, goesOf, wentAt, nextOf, saidOf}
-use Rattle.loops.proofs.Values.{Acts, get-loop, get-act}
-use Rattle.machine.specs.Sound.{zerosOf, bodyOf, restsOf, heldOf, soundOf}
-use Rattle.machine.specs.Step.{outside, framesOf, loopOf, stateOf, readyOf, runOf, sayOf, wentOf, stepOf}
-use Rattle.machine.specs.Moves.{settledOf, ranOf}
+use Rattle.course.specs.Steps.{Frame, frame, State, ready, at, settle, setsOf, goesOf, wentAt, nextOf, saidOf}
+use Rattle.loops.proofs.Values.{get-loop, get-act}
+use Rattle.machine.specs.Sound.{bodyOf, heldOf, soundOf}
+use Rattle.machine.specs.Step.{outside, framesOf, loopOf, readyOf, runOf, sayOf, wentOf, stepOf}
+use Rattle.machine.specs.Moves.{ranOf}
 use Rattle.machine.specs.declared.Answer.the-variants.{Idle, Refused}
 use Rattle.machine.specs.declared.Loop.{Loop as Inner}
 use Rattle.machine.specs.declared.Run.{Run}
 use Rattle.machine.specs.declared.Stepped.{Stepped}
 use Rattle.machine.proofs.Moves.{settle-is}
 use Rattle.machine.proofs.Ranges.{behind-sound}
-use Rattle.machine.proofs.Reached.{Here, here, Opened, Opens, reach-opens, reach-one}
+use Rattle.machine.proofs.Reached.{here, Opened, Opens, reach-opens, reach-one}
 use Rattle.machine.proofs.Sounds.{Parts, sound-parts, resting, running, busy-at}
 
 -- a run that holds no body is sound where its settings are

@@ -6,4 +6,3 @@ pub mod Moves
 pub mod Ranges
 pub mod Reached
 pub mod Sounds
-pub mod Blanks

@@ -1,6 +1,6 @@
 -- The line runs: demand 3 of runs. A finite program that was started is Ready after exactly as many steps as it has commands
 -- unrolled, and not sooner; its answers are those commands; no step is refused. An endless one is never Ready.
-use Prim.Native.Nat.{ℕ, zero, suc, _+_, _≤_, _<_}
+use Prim.Native.Nat.{ℕ, zero, suc, _≤_, _<_}
 use mathlib.Core.List.{List, [], _∷_, map}
 use mathlib.Core.Bool.{Bool, true, false}
 use mathlib.Core.Path.{_≡_, refl, sym, ap, _∙_, subst}
@@ -13,14 +13,14 @@ use Rattle.loops.specs.Token.{get}
 use Rattle.judge.specs.Verdict.{judgeOf}
 use Rattle.grammar.specs.Grammar.{acceptedAs}
 use Rattle.judge.specs.declared.Verdict.the-variants.{Finite, Endless}
-use Rattle.course.specs.Steps.{State, ready, at, Said, did, Busy, settle, started, afterOf, answersOf}
+use Rattle.course.specs.Steps.{State, ready, at, did, Busy, started, afterOf, answersOf}
 use Rattle.course.specs.Tree.{exitOf}
 use Rattle.course.proofs.Programs.{treeIn, program}
 use Rattle.course.proofs.Runs.{settle-at}
-use Rattle.course.proofs.Theorem.{Ends, finite-ends, endless-never}
+use Rattle.course.proofs.Theorem.{finite-ends, endless-never}
 use Rattle.machine.specs.Line.{lineOf, performed as answersFor}
 use Rattle.machine.specs.Sound.{soundOf}
-use Rattle.machine.specs.Step.{outside, readyOf, runOf, sayOf, afterRun, saidRun, startedOf}
+use Rattle.machine.specs.Step.{readyOf, runOf, sayOf, afterRun, saidRun, startedOf}
 use Rattle.machine.specs.declared.Answer.{Answer}
 use Rattle.machine.specs.declared.Answer.the-variants.{Did}
 use Rattle.machine.specs.declared.Run.{Run}

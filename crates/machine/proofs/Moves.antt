@@ -1,37 +1,34 @@
 -- The record behind a command, field by field, is the record of the state behind it.
-use Prim.Native.Nat.{ℕ, zero, suc, _+_, _-_, _≤_, _<_}
+use Prim.Native.Nat.{ℕ, zero, suc, _+_, _-_, _≤_}
 use mathlib.Core.List.{List, [], _∷_}
-use mathlib.Core.Bool.{Bool, true, false}
+use mathlib.Core.Bool.{Bool}
 use mathlib.Core.Path.{_≡_, refl, sym, ap, _∙_}
 use mathlib.Core.Logic.{dite}
 use native.Mathlib.Decide.{decLt}
 use native.Mathlib.Omega.{arith}
-use lib.Dec.{ltb, leb, eqb}
+use lib.Dec.{leb, eqb}
 use lib.ListN.{take, drop}
 use borrow.Author.Tests.{lt-ltb, le-ltb, le-leb, lt-leb, ne-eqb}
 use Rattle.basis.specs.Choice.{when}
 use Rattle.basis.proofs.Choices.{when-true, when-false}
 use Rattle.measure.specs.Width.{widthOf}
 use Rattle.program.specs.Command.{readOf}
-use Rattle.program.specs.declared.Kind.{Kind}
 use Rattle.program.specs.declared.Command.{Command}
-use Rattle.program.specs.declared.Reading.{Reading}
-use Rattle.program.specs.declared.Reading.the-variants.{Good, Refused as Bad}
+use Rattle.program.specs.declared.Reading.the-variants.{Good}
 use Rattle.perform.specs.Price.{answerOf}
 use Rattle.perform.specs.Settings.{behindOf}
 use Rattle.perform.specs.declared.settings.Settings.{Settings}
 use Rattle.perform.specs.declared.price.Performed.{Performed}
-use Rattle.loops.specs.Token.{roleOf, Part, Tok, good, bad, sizeOf, partOf, actOf, tokOf, get}
+use Rattle.loops.specs.Token.{roleOf, Tok, good, sizeOf, partOf, actOf, tokOf, get}
 use Rattle.loops.specs.declared.Role.{Role}
 use Rattle.loops.specs.declared.Role.the-variants.{Plain, Repeat, Close, Forever, Again}
 use Rattle.loops.proofs.Moves.{next-is}
-use Rattle.course.specs.Steps.{Frame, frame, State, ready, at, settle, Said, did, idle, saysOf, closed, returned, goesOf, wentAt, saidAt, nextOf, saidOf}
+use Rattle.course.specs.Steps.{Frame, frame, ready, at, settle, closed, returned, goesOf, wentAt, saidAt}
 use Rattle.machine.specs.Sound.{bodyOf}
-use Rattle.machine.specs.Step.{outside, framesOf, loopOf, readyOf, runOf, sayOf}
+use Rattle.machine.specs.Step.{outside, framesOf, loopOf, runOf, sayOf}
 use Rattle.machine.specs.Moves.{settledOf, closedOf, returnedOf, movedOf, ranOf}
 use Rattle.machine.specs.declared.Answer.{Answer}
-use Rattle.machine.specs.declared.Answer.the-variants.{Did, Idle}
-use Rattle.machine.specs.declared.Loop.{Loop}
+use Rattle.machine.specs.declared.Answer.the-variants.{Did}
 use Rattle.machine.specs.declared.Run.{Run}
 use Rattle.machine.specs.declared.Stepped.{Stepped}
 use Rattle.machine.proofs.Commands.{says-is}

@@ -1,6 +1,6 @@
 -- A place at a command of an accepted body: a good command stands there, the rule of loops keeps it, and the enclosing loop was
 -- opened before, at a place where it stands open too.
-use Prim.Native.Nat.{ℕ, zero, suc, _+_, _≤_, _<_}
+use Prim.Native.Nat.{ℕ, zero, suc, _+_, _≤_}
 use mathlib.Core.List.{List, [], _∷_}
 use mathlib.Core.Bool.{Bool, true, false}
 use mathlib.Core.Path.{_≡_, refl, sym, ap, _∙_, subst}
@@ -8,18 +8,16 @@ use native.Mathlib.Omega.{arith}
 use lib.ListN.{length}
 use Rattle.loops.specs.Token.{Part, act, rep, close, forever, again, Tok, good, bad, sizeOf, get, chain, tokensOf}
 use Rattle.loops.specs.Structure.{Structure, broken, kept, structureOf, roleIn, opened, moved}
-use Rattle.judge.specs.Verdict.{judge, judged, commandsOf, judgeOf}
-use Rattle.judge.specs.Standing.{insideOf, standOf}
+use Rattle.judge.specs.Verdict.{judge, judged}
 use Rattle.grammar.specs.Grammar.{acceptedAs}
 use Rattle.grammar.specs.Reach.{Reach, start, past}
 use Rattle.loops.specs.declared.Open.{Open}
 use Rattle.judge.specs.declared.Verdict.{Verdict}
 use Rattle.judge.specs.declared.Verdict.the-variants.{Finite, Endless, Refused}
 use Rattle.judge.specs.declared.Standing.{Standing}
-use Rattle.judge.specs.declared.Standing.the-variants.{Nowhere}
 use Rattle.grammar.proofs.Refusals.{reach-judge}
-use Rattle.grammar.proofs.Standings.{At, at-stands, stands-at}
-use Rattle.loops.proofs.Tokens.{get-two, tokens-first}
+use Rattle.grammar.proofs.Standings.{At}
+use Rattle.loops.proofs.Tokens.{tokens-first}
 use Rattle.course.proofs.Accepts.{Yes}
 use Rattle.loops.proofs.Values.{get-loop}
 use Rattle.course.proofs.Programs.{accepting}

@@ -1,11 +1,10 @@
 -- Soundness, part by part: which part decides where those before it hold.
-use Prim.Native.Nat.{ℕ, _-_, _≤_, _<_}
-use mathlib.Core.List.{List, [], _∷_}
+use Prim.Native.Nat.{ℕ, _≤_}
+use mathlib.Core.List.{List}
 use mathlib.Core.Bool.{Bool, true, false}
 use mathlib.Core.Path.{_≡_, refl, sym, ap, _∙_}
 use native.Mathlib.Omega.{arith}
-use lib.ListN.{length, take, drop, length-drop}
-use lib.Seq.{take-all}
+use lib.ListN.{drop}
 use lib.Dec.{eqb, leb}
 use borrow.Author.Tests.{leb-true}
 use Rattle.basis.specs.Choice.{when, _and_}
@@ -20,22 +19,12 @@ use Rattle.judge.specs.declared.Standing.the-variants.{Nowhere, Outside, Inside
 use Rattle.grammar.proofs.Standings.{At, stands-at}
 use Rattle.judge.specs.Standing.{standOf, seenOf}
 use Rattle.perform.specs.Settings.{soundOf as settingsSound}
-use Rattle.machine.specs.Sound.{zerosOf, bodyOf, restsOf, heldOf, tidyBy, tidyOf, soundOf}
+use Rattle.room.specs.Room.{zerosOf}
+use Rattle.machine.specs.Sound.{bodyOf, restsOf, heldOf, tidyBy, tidyOf, soundOf}
 use Rattle.perform.specs.declared.settings.Settings.{Settings}
 use Rattle.machine.specs.declared.Loop.{Loop}
 use Rattle.machine.specs.declared.Run.{Run}
 use Rattle.machine.proofs.Reached.{here}
-
--- what is behind the first bytes, as the code lends it
-pub room-is : (b : List ℕ) (n : ℕ) → drop n b ≡ take (length b - n) (drop n b)
-room-is b n = sym (take-all (length b - n) (drop n b) (omega (arith, length-drop n b)))
-
-pub none-left : (b : List ℕ) (n : ℕ) → length b < n → true ≡ zerosOf (drop n b)
-none-left b n h = go (drop n b) (omega (arith, length-drop n b))
-  where
-    go : (xs : List ℕ) → length xs ≤ 0 → true ≡ zerosOf xs
-    go [] z = refl
-    go (x ∷ xs) z = absurd (omega arith)
 
 -- which of the first parts decides
 module _ (b : List ℕ) (n : ℕ) (σ : Settings) (fits : n ≤ 84) where

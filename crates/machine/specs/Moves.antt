@@ -1,9 +1,7 @@
 -- What a command makes of a run's record, field by field: the step of specs/Step written for a record with one open loop.
 -- Contracts of private functions cite it, and no public one does.
 use Prim.Native.Nat.{ℕ, _-_}
-use mathlib.Core.List.{List, [], _∷_}
-use mathlib.Core.Bool.{Bool, true, false}
-use lib.Dec.{eqb, ltb, leb}
+use lib.Dec.{eqb, leb}
 use Rattle.basis.specs.Choice.{when}
 use Rattle.program.specs.declared.Kind.{Kind}
 use Rattle.perform.specs.Settings.{behindOf}

@@ -3,10 +3,11 @@
 -- count 0; Busy .. has an accepted body and a place at a command, with the loop place behind the enclosing `L` and a count left
 -- from 1 to its number inside a loop (at its closing command too), both 0 outside."
 use Prim.Native.Nat.{ℕ}
-use mathlib.Core.List.{List, [], _∷_}
-use mathlib.Core.Bool.{Bool, true, false}
+use mathlib.Core.List.{List}
+use mathlib.Core.Bool.{Bool, false}
 use lib.Dec.{eqb, leb}
 use lib.ListN.{take, drop}
+use Rattle.room.specs.Room.{zerosOf}
 use Rattle.basis.specs.Choice.{when, _and_, within}
 use Rattle.judge.specs.Standing.{standOf}
 use Rattle.judge.specs.declared.Standing.{Standing}
@@ -15,11 +16,6 @@ use Rattle.perform.specs.Settings.{soundOf as settingsSound}
 use Rattle.perform.specs.declared.settings.Settings.{Settings}
 use Rattle.machine.specs.declared.Loop.{Loop}
 use Rattle.machine.specs.declared.Run.{Run}
-
--- all are 0
-abbrev pub zerosOf : List ℕ → Bool
-zerosOf [] = true
-zerosOf (x ∷ xs) = eqb x 0 and zerosOf xs
 
 -- the running body
 abbrev pub bodyOf : Run → List ℕ

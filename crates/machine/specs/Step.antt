@@ -3,13 +3,10 @@
 -- answers Idle and zeros", and number 16, "unsound record, before all else".
 use Prim.Native.Nat.{ℕ, zero, suc}
 use mathlib.Core.List.{List, [], _∷_}
-use mathlib.Core.Bool.{Bool, true, false}
-use lib.Dec.{eqb, ltb}
+use lib.Dec.{eqb}
 use lib.ListN.{length, replicate}
 use Rattle.basis.specs.Bytes.{laid}
 use Rattle.basis.specs.Choice.{when}
-use Rattle.program.specs.declared.Kind.{Kind}
-use Rattle.perform.specs.Settings.{behindOf}
 use Rattle.perform.specs.declared.settings.Settings.{Settings}
 use Rattle.loops.specs.Token.{get}
 use Rattle.course.specs.Steps.{Frame, frame, State, ready, at, Said, did, idle, nextOf, saidOf}

@@ -8,7 +8,6 @@ mod steps;
 
 use perform::Performed;
 use perform::Settings;
-pub use sound::clean;
 
 // The open loop: the place behind its `L` and the count left, both 0 outside loops.
 pub struct Loop {

@@ -24,7 +24,7 @@ ghost use Rattle.program.specs.Command.{readOf};
 ghost use Rattle.program.specs.declared.Reading.the-variants.{Good};
 ghost use Rattle.loops.specs.Token.{roleOf};
 ghost use Rattle.machine.specs.Sound.{bodyOf, soundOf};
-ghost use Rattle.machine.specs.Step.{framesOf, loopOf, readyOf, runOf, wentOf, unsoundOf, stepOf};
+ghost use Rattle.machine.specs.Step.{framesOf, loopOf, readyOf, unsoundOf, stepOf};
 ghost use Rattle.machine.specs.Moves.{settledOf, closedOf, returnedOf, movedOf, ranOf};
 
 // No loop is open.

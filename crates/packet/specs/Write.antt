@@ -8,7 +8,7 @@ use lib.Dec.{eqb, ltb, leb}
 use Rattle.basis.specs.Bytes.{laid}
 use Rattle.basis.specs.Choice.{when, _or_}
 use Rattle.basis.specs.Rows.{Row, _if_, firstOf}
-use Rattle.packet.specs.Wire.{packetOf, queryOf, resetOf, totalOf, packetAt, transmissionOf}
+use Rattle.packet.specs.Wire.{packetOf, totalOf, packetAt, transmissionOf}
 use Rattle.packet.specs.declared.write.Written.{Written}
 use Rattle.packet.specs.declared.write.Written.the-variants.{Wrote, Refused}
 

@@ -1,7 +1,7 @@
 -- The refusal of a text is its first byte at fault: every byte before it is right among its neighbours, and where none is at fault
 -- the text is right.
-use Prim.Native.Nat.{ℕ, zero, suc, _+_, _≤_, _<_}
-use mathlib.Core.Path.{_≡_, refl, sym, ap, subst, _∙_}
+use Prim.Native.Nat.{ℕ, zero, suc, _+_, _<_}
+use mathlib.Core.Path.{_≡_, refl, sym, ap, _∙_}
 use mathlib.Core.Bool.{Bool, true, false}
 use mathlib.Core.List.{List, [], _∷_}
 use native.Mathlib.Omega.{arith}
@@ -12,7 +12,6 @@ use lib.ListN.{length, getD}
 use Rattle.basis.specs.Choice.{when}
 use Rattle.params.specs.Bytes.{caret, firstOf}
 use Rattle.params.specs.Text.{wrongOf, textOf, wrongAt}
-use Rattle.params.specs.declared.Parameter.{Parameter}
 use Rattle.params.specs.declared.Parameter.the-variants.{Right, Wrong}
 
 -- the same behind two bytes

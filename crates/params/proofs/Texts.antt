@@ -1,8 +1,8 @@
 -- Laws of a text's bytes: the fault of one byte by its kind, and one byte more of a text.
 use Prim.Native.Nat.{ℕ, _+_}
-use mathlib.Core.Path.{_≡_, refl, sym, ap, _∙_}
-use mathlib.Core.Bool.{Bool, true, false}
-use mathlib.Core.List.{List, [], _∷_}
+use mathlib.Core.Path.{_≡_, sym, ap, _∙_}
+use mathlib.Core.Bool.{Bool}
+use mathlib.Core.List.{List}
 use borrow.Author.Tests.{eq-eqb, ne-eqb}
 use lib.Dec.{eqb}
 use lib.ListN.{getD, drop}
@@ -10,8 +10,7 @@ use Rattle.basis.specs.Choice.{when}
 use Rattle.params.specs.Bytes.{caret, paramOf, firstOf}
 use Rattle.params.specs.Text.{kindOf, isLetter, mayRun, wrongBy, wrongOf, textOf}
 use Rattle.params.specs.declared.ByteKind.{ByteKind}
-use Rattle.params.specs.declared.ByteKind.the-variants.{Plain, Tilde, Graphic, Forbidden}
-use Rattle.params.specs.declared.Parameter.{Parameter}
+use Rattle.params.specs.declared.ByteKind.the-variants.{Tilde, Graphic}
 use Rattle.params.specs.declared.Parameter.the-variants.{Right, Wrong}
 use Rattle.params.proofs.Places.{param-next, param-end, param-first}
 

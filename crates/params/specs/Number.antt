@@ -3,7 +3,7 @@
 -- between letters and next caret or end", at the command's caret.
 use Prim.Native.Nat.{ℕ, _+_, _*_, _-_}
 use mathlib.Core.List.{List, [], _∷_}
-use mathlib.Core.Bool.{Bool, true, false}
+use mathlib.Core.Bool.{Bool, true}
 use lib.ListN.{length}
 use Rattle.basis.specs.Choice.{when, _and_, within}
 use Rattle.params.specs.declared.Parameter.{Parameter}

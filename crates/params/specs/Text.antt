@@ -3,7 +3,7 @@
 -- another such byte." Its numbers for no: 24 a forbidden byte, at the byte; 25 a tilde without its letter, at the tilde.
 use Prim.Native.Nat.{ℕ, _+_}
 use mathlib.Core.List.{List, [], _∷_}
-use mathlib.Core.Bool.{Bool, true, false}
+use mathlib.Core.Bool.{Bool}
 use lib.Dec.{eqb, ltb, leb}
 use lib.ListN.{getD}
 use Rattle.basis.specs.Choice.{when, _and_, _or_}

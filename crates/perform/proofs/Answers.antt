@@ -1,6 +1,6 @@
 -- The parts of an answer, each as its rule says, make the answer.
 use Prim.Native.Nat.{ℕ}
-use mathlib.Core.Path.{_≡_, refl, sym, ap, _∙_}
+use mathlib.Core.Path.{_≡_, ap, _∙_}
 use Rattle.units.specs.declared.Scans.{Scans}
 use Rattle.units.specs.declared.Millis.{Millis}
 use Rattle.program.specs.declared.Kind.{Kind}

@@ -3,7 +3,6 @@
 -- and milliseconds; what a command lacks is 0, a scroll's start column too"; "`S` with width 0 costs nothing. Otherwise it makes
 -- width + 96 shifts of k scans each. `IA` and `IB` take 7 scans. .. `W` n is 100n ms and no scans. All else is 0."
 use Prim.Native.Nat.{ℕ, _*_}
-use mathlib.Core.Bool.{Bool, true, false}
 use lib.Dec.{eqb}
 use Rattle.basis.specs.Choice.{when}
 use Rattle.units.specs.Units.{sumOf, scansOf as scansEach, millisOf as millisAt}

@@ -1,7 +1,7 @@
 -- What a sign is set to, what of it a command changes, and which settings are in range.
 -- 01: "Pace and scan setting last until changed or reset"; "`XB`: above 31 acts as 31, 0 and 1 end forcing"; of a sound record
 -- "pace, scans, threshold in range, brightness 0 or 2 to 31".
-use Prim.Native.Nat.{ℕ, min}
+use Prim.Native.Nat.{ℕ}
 use mathlib.Core.Bool.{Bool, true, false}
 use lib.Dec.{eqb, ltb}
 use Rattle.basis.specs.Choice.{when, _and_, _or_, within}

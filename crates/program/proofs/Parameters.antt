@@ -1,5 +1,5 @@
 -- Laws of a parameter: where it ends, and a command by its form.
-use Prim.Native.Nat.{ℕ, zero, suc, _+_, _≤_, _<_}
+use Prim.Native.Nat.{ℕ, suc, _+_, _≤_}
 use mathlib.Core.Path.{_≡_, refl, sym, ap, subst, _∙_}
 use mathlib.Core.Bool.{Bool, true, false}
 use mathlib.Core.List.{List, [], _∷_}
@@ -9,11 +9,10 @@ use lib.ListN.{length, getD, drop}
 use Rattle.basis.specs.Choice.{when, _and_, within}
 use Rattle.params.specs.Bytes.{caret, paramOf, firstOf}
 use Rattle.params.specs.Text.{wrongOf, textOf}
-use Rattle.params.specs.Number.{digits, valueOf, numberOf}
+use Rattle.params.specs.Number.{digits, valueOf}
 use Rattle.program.specs.Command.{bareOf, parameterOf, nextOf, commandOf}
 use Rattle.program.specs.declared.Kind.{Kind}
-use Rattle.program.specs.declared.Reading.{Reading}
-use Rattle.program.specs.declared.Reading.the-variants.{Good, Refused}
+use Rattle.program.specs.declared.Reading.the-variants.{Refused}
 use Rattle.program.specs.declared.Form.{Form}
 use Rattle.program.specs.declared.Form.the-variants.{Text, Bare, Number}
 use Rattle.params.specs.declared.Parameter.{Parameter}

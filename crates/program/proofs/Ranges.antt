@@ -1,11 +1,11 @@
 -- What a good command's kind says of its parameter: the form, the range of its number, and where its text lies.
-use Prim.Native.Nat.{ℕ, zero, suc, _+_, _*_, _-_, _≤_, _<_}
+use Prim.Native.Nat.{ℕ, suc, _+_, _*_, _≤_}
 use mathlib.Core.Path.{_≡_, refl, sym, ap, subst, _∙_}
 use mathlib.Core.Bool.{Bool, true, false}
 use mathlib.Core.List.{List, [], _∷_, _++_}
 use native.Mathlib.Omega.{arith}
-use borrow.Author.Tests.{eqb-true, leb-true}
-use lib.Dec.{eqb, leb}
+use borrow.Author.Tests.{eqb-true}
+use lib.Dec.{eqb}
 use lib.ListN.{length, drop}
 use Rattle.basis.specs.Choice.{when, _and_, within}
 use Rattle.params.specs.Bytes.{caret, paramOf, firstOf}
@@ -13,7 +13,7 @@ use Rattle.params.specs.Text.{wrongOf, textOf}
 use Rattle.params.specs.Number.{digits, valueOf, numberOf}
 use Rattle.program.specs.Table.{table, rowAt}
 use Rattle.program.specs.Answers.{lettersOf}
-use Rattle.program.specs.Command.{parameterOf, commandOf, rowOf, readOf}
+use Rattle.program.specs.Command.{parameterOf, readOf}
 use Rattle.program.specs.declared.Kind.{Kind}
 use Rattle.program.specs.declared.Kind.the-variants.{II, IA, IB, S, L, E, F, R, XS, XF, P, Scans, W, XD, XB, Y}
 use Rattle.program.specs.declared.Form.{Form}
@@ -22,11 +22,10 @@ use Rattle.program.specs.declared.Row.the-variants.{Known}
 use Rattle.params.specs.declared.Parameter.{Parameter}
 use Rattle.params.specs.declared.Parameter.the-variants.{Right, Wrong}
 use Rattle.program.specs.declared.Command.{Command}
-use Rattle.program.specs.declared.Reading.{Reading}
-use Rattle.program.specs.declared.Reading.the-variants.{Good, Refused}
+use Rattle.program.specs.declared.Reading.the-variants.{Good}
 use Rattle.basis.proofs.Choices.{and-parts, within-parts}
 use Rattle.program.proofs.Rows.{row-holds}
-use Rattle.program.proofs.Laws.{TextAt, Made, made, ends-within}
+use Rattle.program.proofs.Laws.{TextAt, made, ends-within}
 
 -- the form that the table has for a kind
 abbrev pub formOf : Kind → Form

@@ -15,7 +15,6 @@ use Rattle.program.specs.declared.Row.{Row}
 use Rattle.program.specs.declared.Row.the-variants.{Known, Unknown}
 use Rattle.params.specs.declared.Parameter.{Parameter}
 use Rattle.params.specs.declared.Parameter.the-variants.{Right, Wrong}
-use Rattle.program.specs.declared.Command.{Command}
 use Rattle.program.specs.declared.Reading.{Reading}
 use Rattle.program.specs.declared.Reading.the-variants.{Good, Refused}
 

@@ -8,7 +8,6 @@ use Rattle.packet.specs.Wire.{packetOf, replyOf}
 use Rattle.reader.specs.Read.{readOf}
 use Rattle.program.specs.Command.{readOf as commandAt}
 use Rattle.perform.specs.Price.{answerOf}
-use Rattle.perform.specs.Settings.{soundOf}
 use Rattle.judge.specs.Verdict.{judgeOf}
 use Rattle.judge.specs.declared.Verdict.the-variants.{Finite}
 use Rattle.course.proofs.Programs.{treeIn}
@@ -18,7 +17,7 @@ use Rattle.reckon.specs.Forecast.{pricesOf}
 use Rattle.reckon.specs.declared.reckon.Foretold.the-variants.{Ends}
 use Rattle.reckon.proofs.Forecasts.{in-range, settings-sound, tallies-price}
 use Rattle.sign.specs.Reset.{freshOf}
-use Rattle.promises.specs.Bench.{All, starred, costs, w5, l3w2e, shi, s, slow}
+use Rattle.promises.specs.Bench.{All, starred, w5, l3w2e, shi, s, slow}
 
 -- a program that ends is foretold its price
 foretold : (b : List ℕ) → judgeOf b ≡ Finite → forecastOf b 4 1 ≡ Ends (pricesOf (treeIn b .block) (settingsAt 4 1))

@@ -1,6 +1,6 @@
 -- Ours keeps the promise of the line, and the three wrong machines do not.
-use Prim.Native.Nat.{ℕ, zero, suc, _+_, _<_}
-use mathlib.Core.Bool.{Bool, true, false}
+use Prim.Native.Nat.{ℕ, zero, suc}
+use mathlib.Core.Bool.{false}
 use mathlib.Core.List.{List, [], _∷_}
 use mathlib.Core.Path.{_≡_, refl, sym, ap, _∙_}
 use native.Mathlib.Omega.{arith}
@@ -12,7 +12,6 @@ use Rattle.perform.specs.Price.{answerOf}
 use Rattle.perform.specs.Settings.{soundOf}
 use Rattle.perform.specs.declared.settings.Settings.{Settings}
 use Rattle.judge.specs.Verdict.{judgeOf}
-use Rattle.judge.specs.declared.Verdict.the-variants.{Finite}
 use Rattle.reckon.specs.Forecast.{settingsAt, forecastOf}
 use Rattle.machine.specs.Line.{lineOf}
 use Rattle.machine.specs.Step.{stepOf, afterRun, saidRun, startedOf}
@@ -25,7 +24,7 @@ use Rattle.reckon.proofs.Demand.{forecast-holds, forecast-never}
 use Rattle.machine.proofs.Follows.{ready-none}
 use Rattle.machine.proofs.Lines.{line-ends, line-never}
 use Rattle.promises.specs.Bench.{w5}
-use Rattle.promises.specs.Line.{Machine, after, said, Runs, Goes, LineRuns, ours, atOnce, madeUp, inventing, counting}
+use Rattle.promises.specs.Line.{after, said, LineRuns, ours, atOnce, madeUp, inventing, counting}
 
 after-is : (k : ℕ) (r : Run) → after ours k r ≡ afterRun k r
 after-is zero r = refl

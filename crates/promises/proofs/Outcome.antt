@@ -1,6 +1,6 @@
 -- One outcome: for each public call, any two outcomes that its contract allows are equal, of the answer and of every lent byte. It is
 -- stated over the contract as the prover reads it (`Post`), so no copy of a contract can drift from it.
-use mathlib.Core.Path.{_≡_, sym, ap, _∙_}
+use mathlib.Core.Path.{_≡_, sym, _∙_}
 use denote.Ref.{now}
 use contract.Lifetimes
 use denote.Triple.Clauses
@@ -108,9 +108,9 @@ use Rattle.machine.proofs.Run.sound.Reads as machine-Run-sound-reads
 use Rattle.reckon.proofs.forecast as reckon-forecast
 use Rattle.reckon.proofs.forecast.Kinds as reckon-forecast-kinds
 use Rattle.reckon.proofs.forecast.Reads as reckon-forecast-reads
-use Rattle.machine.proofs.clean as machine-clean
-use Rattle.machine.proofs.clean.Kinds as machine-clean-kinds
-use Rattle.machine.proofs.clean.Reads as machine-clean-reads
+use Rattle.room.proofs.clean as room-clean
+use Rattle.room.proofs.clean.Kinds as room-clean-kinds
+use Rattle.room.proofs.clean.Reads as room-clean-reads
 use Rattle.totals.proofs.Totals.none as totals-Totals-none
 use Rattle.totals.proofs.Totals.none.Kinds as totals-Totals-none-kinds
 use Rattle.totals.proofs.Totals.none.Reads as totals-Totals-none-reads
@@ -354,9 +354,9 @@ pub one-reckon-forecast : (κs : Lifetimes.Lfts 1) (a : World.ArgsD reckon-forec
     (s s′ : Clauses.AtExit (K.endedOf 1 reckon-forecast-kinds.ps reckon-forecast-kinds.r) κs) → reckon-forecast-reads.Post κs a r s → reckon-forecast-reads.Post κs a r′ s′ → r ≡ r′
 one-reckon-forecast κs a r r′ s s′ h h′ = one h h′
 
-pub one-machine-clean : (κs : Lifetimes.Lfts 1) (a : World.ArgsD machine-clean.signature κs) (r r′ : World.ResD machine-clean.signature κs)
-    (s s′ : Clauses.AtExit (K.endedOf 1 machine-clean-kinds.ps machine-clean-kinds.r) κs) → machine-clean-reads.Post κs a r s → machine-clean-reads.Post κs a r′ s′ → r ≡ r′
-one-machine-clean κs a r r′ s s′ h h′ = one h h′
+pub one-room-clean : (κs : Lifetimes.Lfts 1) (a : World.ArgsD room-clean.signature κs) (r r′ : World.ResD room-clean.signature κs)
+    (s s′ : Clauses.AtExit (K.endedOf 1 room-clean-kinds.ps room-clean-kinds.r) κs) → room-clean-reads.Post κs a r s → room-clean-reads.Post κs a r′ s′ → r ≡ r′
+one-room-clean κs a r r′ s s′ h h′ = one h h′
 
 pub one-totals-Totals-none : (κs : Lifetimes.Lfts 0) (a : World.ArgsD totals-Totals-none.signature κs) (r r′ : World.ResD totals-Totals-none.signature κs)
     (s s′ : Clauses.AtExit (K.endedOf 0 totals-Totals-none-kinds.ps totals-Totals-none-kinds.r) κs) → totals-Totals-none-reads.Post κs a r s → totals-Totals-none-reads.Post κs a r′ s′ → r ≡ r′

@@ -1,6 +1,6 @@
 -- Ours keeps the promises of the record; a joiner of one fixed body, a sign that starts over and one that a refusal shakes do not.
 use Prim.Native.Nat.{ℕ, zero, suc, _*_, _≤_, _<_}
-use mathlib.Core.List.{List, [], _∷_}
+use mathlib.Core.List.{List, []}
 use mathlib.Core.Path.{_≡_, refl, sym, ap, _∙_}
 use native.Mathlib.Omega.{arith}
 use lib.ListN.{length, getD, take, drop}
@@ -17,11 +17,11 @@ use Rattle.sign.specs.Receive.{receiveOf}
 use Rattle.sign.specs.Reset.{freshOf, powerOn, startSettings}
 use Rattle.sign.specs.declared.Sign.{Sign}
 use Rattle.sign.specs.declared.Received.{Received}
-use Rattle.service.proofs.Keeps.{Good, power-good, receive-good, step-good, cleared-good}
+use Rattle.service.proofs.Keeps.{power-good, receive-good, step-good, cleared-good}
 use Rattle.service.proofs.Driver.{receive-still, step-still, reset-still, busy-stays}
 use Rattle.service.proofs.Deliveries.{delivers}
 use Rattle.promises.specs.Bench.{hi}
-use Rattle.promises.specs.Record.{Calls, NoTrip, Gets, Delivers, LetsRun, cutOf, behind, told, ours, fixed, startingOver, shaken}
+use Rattle.promises.specs.Record.{NoTrip, Gets, Delivers, LetsRun, cutOf, behind, told, ours, fixed, startingOver, shaken}
 
 pub ours-never-trips : NoTrip ours
 ours-never-trips =

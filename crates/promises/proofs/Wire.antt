@@ -1,8 +1,8 @@
 -- Ours keeps the promise of the wire; a reader that refuses everything and a writer that writes nothing do not.
-use Prim.Native.Nat.{ℕ, zero, suc, _+_, _-_, _*_, _≤_, _<_, min}
+use Prim.Native.Nat.{ℕ, _≤_, _<_}
 use mathlib.Core.Bool.{Bool, true}
-use mathlib.Core.List.{List, [], _∷_}
-use mathlib.Core.Path.{_≡_, refl, sym, ap, _∙_}
+use mathlib.Core.List.{List}
+use mathlib.Core.Path.{_≡_, ap, _∙_}
 use native.Mathlib.Omega.{arith}
 use lib.ListN.{length, take, drop, replicate, length-drop}
 use lib.Seq.{drop-append-le, take-append-le}
@@ -14,7 +14,6 @@ use Rattle.packet.specs.Wire.{fifthOf, packetOf, totalOf, partOf, packetAt, rep
 use Rattle.reader.specs.Read.{readOf}
 use Rattle.reply.specs.Reply.{isLast, heardOf, replyRows}
 use Rattle.packet.specs.Write.{packetRows, answerOf, bufferOf}
-use Rattle.reader.specs.declared.read.Reading.the-variants.{Normal, Refused}
 use Rattle.packet.specs.declared.write.Written.the-variants.{Wrote}
 use Rattle.reader.proofs.ReadBack.{body-reads}
 use Rattle.packet.proofs.Parts.{part-length}

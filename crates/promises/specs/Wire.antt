@@ -2,14 +2,14 @@
 -- 01: "what was written reads back as its fields, and accepted packets of equal fields are equal bytes".
 use Prim.Native.Nat.{ℕ, _≤_, _<_}
 use mathlib.Core.Bool.{Bool, true}
-use mathlib.Core.List.{List, []}
+use mathlib.Core.List.{List}
 use mathlib.Core.Path.{_≡_}
 use lib.ListN.{length, take, drop}
 use Rattle.basis.specs.Bytes.{Bytes}
 use Rattle.packet.specs.Wire.{totalOf, partOf, packetAt, replyOf}
 use Rattle.reader.specs.Read.{rowsOf, readOf}
 use Rattle.reply.specs.Reply.{isLast, heardOf, replyRows}
-use Rattle.packet.specs.Write.{Writes, packetRows, answerOf, bufferOf}
+use Rattle.packet.specs.Write.{packetRows, answerOf, bufferOf}
 use Rattle.basis.specs.Rows.{firstOf}
 use Rattle.reader.specs.declared.read.Reading.{Reading}
 use Rattle.reader.specs.declared.read.Reading.the-variants.{Normal, Refused}

@@ -9,7 +9,7 @@ use Rattle.perform.specs.declared.settings.Settings.{Settings}
 use Rattle.loops.specs.Token.{Part, act, rep, close, forever, again, Tok, good, bad, sizeOf, get, chain, tokensOf}
 use Rattle.judge.specs.Verdict.{judgeOf}
 use Rattle.judge.specs.declared.Verdict.the-variants.{Finite}
-use Rattle.loops.proofs.Tokens.{tokens-first, get-two}
+use Rattle.loops.proofs.Tokens.{tokens-first}
 use Rattle.course.specs.Steps.{saysOf, setsOf}
 use Rattle.course.specs.Tree.{Block, stop, one, loop, flat}
 use Rattle.course.specs.Price.{ones, scans, millis, leavesOf, priceOf}

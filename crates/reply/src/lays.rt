@@ -5,7 +5,6 @@ use crate::letters::state_letter;
 use crate::letters::turned_mid;
 use packet::Written;
 use packet::checksum;
-ghost use mathlib.Core.Path.{_≡_};
 ghost use Rattle.packet.specs.Wire.{replyOf};
 ghost use Rattle.packet.specs.Write.{Writes};
 ghost use Rattle.reply.specs.Reply.{replyRows};

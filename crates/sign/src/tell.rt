@@ -3,10 +3,9 @@
 use crate::Sign;
 use packet::Written;
 use reply::write_reply;
-ghost use mathlib.Core.Path.{_≡_};
 ghost use Rattle.machine.specs.Sound.{bodyOf};
 ghost use Rattle.packet.specs.Write.{Writes};
-ghost use Rattle.sign.specs.Tell.{busyOf, saysOf, toldRows};
+ghost use Rattle.sign.specs.Tell.{saysOf, toldRows};
 
 impl Sign {
     // Lays the reply to a query, with the AUX pin as the caller reads it.

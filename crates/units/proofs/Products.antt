@@ -1,6 +1,6 @@
 -- When a product passes the limit, and the milliseconds of scans taken by whole rounds and a rest.
-use Prim.Native.Nat.{ℕ, zero, _+_, _-_, _*_, _/_, _%_, _≤_, _<_}
-use mathlib.Core.Path.{_≡_, refl, sym, ap, _∙_}
+use Prim.Native.Nat.{ℕ, _+_, _-_, _*_, _/_, _%_, _≤_, _<_}
+use mathlib.Core.Path.{_≡_, ap, _∙_}
 use native.Mathlib.Omega.{arith}
 use native.Mathlib.Nat.{le-div-iff-mul-le, div-lt-iff-lt-mul, div-add-mod, mul-add-div, mod-lt}
 use Rattle.units.specs.Units.{limit, capped, sumOf, roundedUp, millisOf}

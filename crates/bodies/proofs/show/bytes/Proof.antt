@@ -1,7 +1,6 @@
 -- `bodies::show::bytes` ends: what is left of the body falls.
 use borrow.Author.Needs.{needs}
-use Prim.Native.Nat.{_-_, _≤_}
-use mathlib.Core.Path.{_≡_}
+use Prim.Native.Nat.{_-_}
 use lib.ListN.{length}
 use Rattle.bodies.proofs.show.bytes.Statement.{statement}
 use Rattle.bodies.proofs.show.bytes.Tie as tie

@@ -7,7 +7,7 @@ use lib.ListN.{length}
 use borrow.Author.Tests.{not-true, not-false}
 use borrow.Author.Needs.{needs}
 use Rattle.basis.specs.Choice.{_and_}
-use Rattle.machine.specs.Sound.{zerosOf}
+use Rattle.room.specs.Room.{zerosOf}
 use Rattle.collect.proofs.Turns.{blank-slots}
 use Rattle.collect.proofs.Collection.blank.Statement.{statement}
 use Rattle.collect.proofs.Collection.blank.Tie as tie

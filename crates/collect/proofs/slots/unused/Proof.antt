@@ -3,7 +3,7 @@ use Prim.Native.Nat.{_≤_}
 use mathlib.Core.Path.{sym, ap}
 use native.Mathlib.Omega.{arith}
 use lib.ListN.{length, drop-of-length-le}
-use Rattle.machine.specs.Sound.{zerosOf}
+use Rattle.room.specs.Room.{zerosOf}
 use borrow.Author.Needs.{needs}
 use Rattle.collect.proofs.slots.unused.Statement.{statement}
 use Rattle.collect.proofs.slots.unused.Tie as tie

@@ -1,6 +1,5 @@
 -- `lay_stepped` lays the words of the answer and the run behind it; a refusal leaves both.
 use mathlib.Core.Path.{refl}
-use Rattle.machine.specs.declared.Answer.{Answer}
 use Rattle.machine.specs.declared.Answer.the-variants.{Did, Idle, Refused}
 use Rattle.sign.specs.Step.{numberOf}
 use Rattle.image.specs.Layout.{runIn}

@@ -8,7 +8,6 @@ use Rattle.loops.specs.Token.{tokensOf}
 use Rattle.judge.specs.Standing.{standAt, ofAccepted, standOf, seenOf}
 use Rattle.judge.specs.declared.Standing.{Standing}
 use Rattle.judge.specs.declared.Verdict.{Verdict}
-use Rattle.judge.specs.declared.Found.{Found}
 use Rattle.judge.specs.declared.Walked.{Walked}
 use Rattle.judge.proofs.Turns.{front-judged, begun-front, seen-is}
 use borrow.Author.Needs.{needs}

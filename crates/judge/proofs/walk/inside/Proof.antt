@@ -1,5 +1,5 @@
 -- `judge::walk::inside` meets its contract: each arm knows where judging stands.
-use mathlib.Core.Path.{sym, ap, _∙_}
+use mathlib.Core.Path.{sym, ap}
 use Rattle.loops.specs.Flow.{opensOf}
 use Rattle.judge.specs.Standing.{insideOf}
 use Rattle.loops.specs.declared.Flow.{Flow}

@@ -1,7 +1,7 @@
 -- `judge::structure::outside` meets its contract: each arm knows the role.
 use Rattle.loops.proofs.Moves.{rule-role}
 use Rattle.loops.specs.declared.Role.the-variants.{Plain, Repeat, Close, Forever, Again}
-use mathlib.Core.List.{[], _∷_}
+use mathlib.Core.List.{[]}
 use borrow.Author.Needs.{needs}
 use Rattle.loops.proofs.structure.outside.Statement.{statement}
 use Rattle.loops.proofs.structure.outside.Tie as tie

@@ -1,6 +1,6 @@
 -- `judge::structure::rule` meets its contract: where judging stands says which of the two answers.
 use Rattle.loops.proofs.Moves.{rule-flow}
-use Rattle.loops.specs.declared.Flow.the-variants.{Free, Within, Ended}
+use Rattle.loops.specs.declared.Flow.the-variants.{Free, Ended}
 use borrow.Author.Needs.{needs}
 use Rattle.loops.proofs.structure.rule.Statement.{statement}
 use Rattle.loops.proofs.structure.rule.Tie as tie

@@ -1,5 +1,4 @@
 use mathlib.Core.Path.{sym, _∙_}
-use Rattle.basis.proofs.Tests.{tests}
 use borrow.Author.Needs.{needs}
 use Rattle.perform.proofs.price.column.Statement.{statement}
 use Rattle.perform.proofs.price.column.Tie as tie

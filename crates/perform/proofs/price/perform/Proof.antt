@@ -1,5 +1,4 @@
 use Rattle.perform.proofs.Answers.{answer-is}
-use Rattle.basis.proofs.Tests.{tests}
 use borrow.Author.Needs.{needs}
 use Rattle.perform.proofs.price.perform.Statement.{statement}
 use Rattle.perform.proofs.price.perform.Tie as tie

@@ -1,5 +1,5 @@
 -- `forecast` refuses a setting out of range, then goes by the body's front, and tells what the walk over its commands does.
-use mathlib.Core.Path.{sym, ap, refl, _∙_}
+use mathlib.Core.Path.{sym, refl, _∙_}
 use Rattle.basis.proofs.Tests.{tests}
 use Rattle.judge.specs.Verdict.{judgeOf}
 use Rattle.judge.proofs.Turns.{front-judged}

@@ -1,5 +1,5 @@
 -- `closed` adds the first pass, and what each that follows costs.
-use mathlib.Core.Path.{_≡_, refl, sym, ap, _∙_}
+use mathlib.Core.Path.{refl, sym, ap, _∙_}
 use native.Mathlib.Omega.{arith}
 use Rattle.totals.specs.declared.Totals.{Totals}
 use Rattle.reckon.specs.Reckon.{passOf}

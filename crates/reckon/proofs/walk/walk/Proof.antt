@@ -1,6 +1,6 @@
 -- `walk` judges and reckons round by round: the verdict from here on is that on the whole, and what is reckoned and left make up the whole.
-use Prim.Native.Nat.{ℕ, _-_}
-use mathlib.Core.Path.{_≡_, sym, ap, _∙_}
+use Prim.Native.Nat.{_-_}
+use mathlib.Core.Path.{sym, ap, _∙_}
 use native.Mathlib.Omega.{arith}
 use lib.ListN.{length}
 use Rattle.program.specs.Command.{readOf}

@@ -1,8 +1,7 @@
 -- `repeat` gives the standing line wherever the stretch doesn't lie within the body.
 use Rattle.repeater.proofs.Stretches.{ends, stands, stretches}
-use native.Mathlib.Omega.{arith}
 use borrow.Author.Tests.{not-true, not-false}
-use mathlib.Core.Path.{_≡_, sym, _∙_}
+use mathlib.Core.Path.{sym, _∙_}
 use borrow.Author.Needs.{needs}
 use Rattle.repeater.proofs.stretch.repeat.Statement.{statement}
 use Rattle.repeater.proofs.stretch.repeat.Tie as tie

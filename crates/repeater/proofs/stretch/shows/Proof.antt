@@ -2,7 +2,6 @@
 use Rattle.repeater.proofs.Stretches.{nowhere, outside, inside}
 use native.Mathlib.Omega.{arith}
 use mathlib.Core.Path.{sym}
-use borrow.Author.Needs.{needs}
 use Rattle.repeater.proofs.stretch.shows.Statement.{statement}
 use Rattle.repeater.proofs.stretch.shows.Tie as tie
 

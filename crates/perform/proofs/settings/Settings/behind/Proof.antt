@@ -1,4 +1,3 @@
-use Rattle.basis.proofs.Tests.{tests}
 use borrow.Author.Needs.{needs}
 use Rattle.perform.proofs.settings.Settings.behind.Statement.{statement}
 use Rattle.perform.proofs.settings.Settings.behind.Tie as tie

@@ -1,16 +1,16 @@
 -- Zeros, byte by byte.
-use Prim.Native.Nat.{ℕ, zero, suc, _+_, _≤_, _<_}
+use Prim.Native.Nat.{ℕ, _+_, _-_, _≤_, _<_}
 use mathlib.Core.List.{List, [], _∷_}
 use mathlib.Core.Bool.{Bool, true, false}
 use mathlib.Core.Path.{_≡_, refl, sym, ap, _∙_}
 use native.Mathlib.Numerals.{add-one}
 use lib.Dec.{eqb}
-use lib.ListN.{length, getD, drop, drop-of-length-le}
-use lib.Seq.{drop-cons}
+use lib.ListN.{length, length-drop, getD, take, drop, drop-of-length-le}
+use lib.Seq.{drop-cons, take-all}
 use native.Mathlib.Omega.{arith}
 use borrow.Author.Tests.{eq-eqb, ne-eqb, eqb-true}
 use Rattle.basis.specs.Choice.{_and_}
-use Rattle.machine.specs.Sound.{zerosOf}
+use Rattle.room.specs.Room.{zerosOf}
 
 zeros-at : (s : List ℕ) (i : ℕ) → i < length s → zerosOf (drop i s) ≡ eqb (getD s i 0) 0 and zerosOf (drop (i + 1) s)
 zeros-at s i h = rw (add-one i, drop-cons s i 0)
@@ -50,3 +50,14 @@ greater-right a b h = go (eqb a 0) refl
     go : (t : Bool) → eqb a 0 ≡ t → eqb a 0 ≡ eqb a 0 and eqb b 0
     go true e = let z : b ≡ 0 = omega (arith, eqb-true a 0 e) in e ∙ sym (ap (λ (u : Bool). u and eqb b 0) e ∙ eq-eqb b 0 z)
     go false e = e ∙ sym (ap (λ (u : Bool). u and eqb b 0) e)
+
+-- what is behind the first bytes, as the code lends it
+pub room-is : (b : List ℕ) (n : ℕ) → drop n b ≡ take (length b - n) (drop n b)
+room-is b n = sym (take-all (length b - n) (drop n b) (omega (arith, length-drop n b)))
+
+pub none-left : (b : List ℕ) (n : ℕ) → length b < n → true ≡ zerosOf (drop n b)
+none-left b n h = go (drop n b) (omega (arith, length-drop n b))
+  where
+    go : (xs : List ℕ) → length xs ≤ 0 → true ≡ zerosOf xs
+    go [] z = refl
+    go (x ∷ xs) z = absurd (omega arith)

@@ -5,10 +5,10 @@ use lib.Dec.{eqb}
 use lib.ListN.{length, drop}
 use borrow.Author.Needs.{needs}
 use Rattle.basis.specs.Choice.{_and_}
-use Rattle.machine.specs.Sound.{zerosOf}
-use Rattle.machine.proofs.Blanks.{zero-more, zero-past}
-use Rattle.machine.proofs.sound.zeros.Statement.{statement}
-use Rattle.machine.proofs.sound.zeros.Tie as tie
+use Rattle.room.specs.Room.{zerosOf}
+use Rattle.room.proofs.Blanks.{zero-more, zero-past}
+use Rattle.room.proofs.zeros.Statement.{statement}
+use Rattle.room.proofs.zeros.Tie as tie
 
 abbrev Inv-loop : tie.InvT-loop
 Inv-loop bytes most₀ i₀ most i = (i ≤ length bytes) × (zerosOf bytes ≡ eqb most 0 and zerosOf (drop i bytes))

@@ -1,8 +1,8 @@
 -- `greater` gives one of the two, and the lesser one is 0 where the greater is.
 use borrow.Author.Needs.{needs}
-use Rattle.machine.proofs.Blanks.{greater-left, greater-right}
-use Rattle.machine.proofs.sound.greater.Statement.{statement}
-use Rattle.machine.proofs.sound.greater.Tie as tie
+use Rattle.room.proofs.Blanks.{greater-left, greater-right}
+use Rattle.room.proofs.greater.Statement.{statement}
+use Rattle.room.proofs.greater.Tie as tie
 
 returns : tie.Need-returns
 returns c =

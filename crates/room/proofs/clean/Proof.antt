@@ -1,15 +1,10 @@
 -- `clean` asks of what is behind the first bytes; behind the end is nothing.
-use Prim.Native.Nat.{ℕ, _-_, _≤_}
-use mathlib.Core.List.{List}
-use mathlib.Core.Path.{_≡_, sym, ap, _∙_}
-use native.Mathlib.Omega.{arith}
-use lib.ListN.{length, take, drop, length-drop}
-use lib.Seq.{take-all}
-use Rattle.machine.specs.Sound.{zerosOf}
-use Rattle.machine.proofs.Sounds.{room-is, none-left}
+use mathlib.Core.Path.{sym, ap, _∙_}
+use Rattle.room.specs.Room.{zerosOf}
+use Rattle.room.proofs.Blanks.{room-is, none-left}
 use borrow.Author.Needs.{needs}
-use Rattle.machine.proofs.sound.clean.Statement.{statement}
-use Rattle.machine.proofs.sound.clean.Tie as tie
+use Rattle.room.proofs.clean.Statement.{statement}
+use Rattle.room.proofs.clean.Tie as tie
 
 zeros-requires : tie.Need-zeros-requires
 zeros-requires c κs = search needs

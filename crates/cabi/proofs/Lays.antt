@@ -48,27 +48,26 @@ sign-tells bytes image out {after} {s} {w} size e h er =
     }
 
 -- what is told of x is told of y, where x is y
-pub told-of : {X : Type 0} (number : X → ℕ) (words : X → List ℕ) (size : ℕ) (answer : List ℕ) {r : ℕ} {after : List ℕ} (x y : X) → x ≡ y
-    → (r ≡ firstOr (answerRow size answer ∷ []) (number x)) × (after ≡ toldIn size (wordsOf (words x)) answer)
-    → (r ≡ firstOr (answerRow size answer ∷ []) (number y)) × (after ≡ toldIn size (wordsOf (words y)) answer)
-told-of {X} number words size answer x y e h = (
-  h .0 ∙ ap (λ (z : X). firstOr (answerRow size answer ∷ []) (number z)) e,
-  h .1 ∙ ap (λ (z : X). toldIn size (wordsOf (words z)) answer) e,
-)
+abbrev pub Told : {X : Type 0} → (number : X → ℕ) → (words : X → List ℕ) → (size : ℕ) → (answer : List ℕ) → (r : ℕ) → (after : List ℕ) → X → Type 0
+Told number words size answer r after x =
+    (r ≡ firstOr (answerRow size answer ∷ []) (number x)) × (after ≡ toldIn size (wordsOf (words x)) answer)
 
--- a step of the sign in an image
-pub step-answers : (image answer : List ℕ) {r : ℕ} {image′ answer′ : List ℕ} (x : Stepped) → x ≡ stepOf (recordOf image)
-    → (r ≡ firstOr (imageRow image ∷ answerRow 28 answer ∷ []) (stepNumber (x .answer)))
+pub told-of : {X : Type 0} (number : X → ℕ) (words : X → List ℕ) (size : ℕ) (answer : List ℕ) {r : ℕ} {after : List ℕ} (x y : X) → x ≡ y
+    → Told number words size answer r after x
+    → Told number words size answer r after y
+told-of number words size answer {r} {after} x y = subst (Told number words size answer r after)
+
+-- the outcome of a step of the sign in an image
+abbrev pub Steps : (image answer : List ℕ) → (r : ℕ) → (image′ answer′ : List ℕ) → Stepped → Type 0
+Steps image answer r image′ answer′ x =
+    (r ≡ firstOr (imageRow image ∷ answerRow 28 answer ∷ []) (stepNumber (x .answer)))
     × ((image′ ≡ lent 28 image answer image (ranOf (x .answer) (imageOf (x .sign)) image))
     × (answer′ ≡ lent 28 image answer answer (laid (wordsOf (stepWords (x .answer))) answer)))
+
+pub step-answers : (image answer : List ℕ) {r : ℕ} {image′ answer′ : List ℕ} (x : Stepped) → x ≡ stepOf (recordOf image)
+    → Steps image answer r image′ answer′ x
     → (r ≡ stepNo image answer) × ((image′ ≡ stepImage image answer) × (answer′ ≡ stepAnswer image answer))
-step-answers image answer x e h = (
-  h .0 ∙ ap (λ (z : Stepped). firstOr (imageRow image ∷ answerRow 28 answer ∷ []) (stepNumber (z .answer))) e,
-  (
-    h .1 .0 ∙ ap (λ (z : Stepped). lent 28 image answer image (ranOf (z .answer) (imageOf (z .sign)) image)) e,
-    h .1 .1 ∙ ap (λ (z : Stepped). lent 28 image answer answer (laid (wordsOf (stepWords (z .answer))) answer)) e,
-  ),
-)
+step-answers image answer {r} {image′} {answer′} x = subst (Steps image answer r image′ answer′)
 
 -- the same by the run: what it left, laid over the image
 pub run-answers : (image answer : List ℕ) {r : ℕ} {image′ answer′ : List ℕ} (w : RunStepped) → length image ≡ 186 → 28 ≤ length answer
@@ -86,32 +85,29 @@ run-answers image answer w size room e h =
       ),
     )
 
--- the bytes told of a receive
+-- the bytes told of a receive, and its outcome where the sign in an image receives
 abbrev pub bytesOf : Received → List ℕ
 bytesOf x = receivedBytes (x .outcome) (x .body) (x .len)
 
--- bytes received by the sign in an image
-pub receive-answers : (image answer : List ℕ) (mid : ℕ) (bytes : List ℕ) {r : ℕ} {image′ answer′ : List ℕ} (x : Received) → x ≡ receiveOf (recordOf image) mid bytes
-    → (r ≡ firstOr (imageRow image ∷ answerRow 100 answer ∷ []) (numberOf (x .outcome)))
+abbrev pub Receives : (image answer : List ℕ) → (r : ℕ) → (image′ answer′ : List ℕ) → Received → Type 0
+Receives image answer r image′ answer′ x =
+    (r ≡ firstOr (imageRow image ∷ answerRow 100 answer ∷ []) (numberOf (x .outcome)))
     × ((image′ ≡ lent 100 image answer image (keptOf (x .outcome) (imageOf (x .sign)) image))
     × (answer′ ≡ lent 100 image answer answer (keptOf (x .outcome) (laid (bytesOf x) answer) answer)))
-    → (r ≡ receiveNo image mid bytes answer) × ((image′ ≡ receiveImage image mid bytes answer) × (answer′ ≡ receiveAnswer image mid bytes answer))
-receive-answers image answer mid bytes x e h = (
-  h .0 ∙ ap (λ (z : Received). firstOr (imageRow image ∷ answerRow 100 answer ∷ []) (numberOf (z .outcome))) e,
-  (
-    h .1 .0 ∙ ap (λ (z : Received). lent 100 image answer image (keptOf (z .outcome) (imageOf (z .sign)) image)) e,
-    h .1 .1 ∙ ap (λ (z : Received). lent 100 image answer answer (keptOf (z .outcome) (laid (bytesOf z) answer) answer)) e,
-  ),
-)
 
--- a reset of the sign in an image
-pub reset-answers : (image : List ℕ) {r : ℕ} {image′ : List ℕ} (x : Cleared) → x ≡ clearedOf (recordOf image)
-    → (r ≡ firstOr (imageRow image ∷ []) (numberOf (x .outcome))) × (image′ ≡ sized image (keptOf (x .outcome) (imageOf (x .sign)) image))
+pub receive-answers : (image answer : List ℕ) (mid : ℕ) (bytes : List ℕ) {r : ℕ} {image′ answer′ : List ℕ} (x : Received) → x ≡ receiveOf (recordOf image) mid bytes
+    → Receives image answer r image′ answer′ x
+    → (r ≡ receiveNo image mid bytes answer) × ((image′ ≡ receiveImage image mid bytes answer) × (answer′ ≡ receiveAnswer image mid bytes answer))
+receive-answers image answer mid bytes {r} {image′} {answer′} x = subst (Receives image answer r image′ answer′)
+
+-- the outcome of a reset of the sign in an image
+abbrev pub Resets : (image : List ℕ) → (r : ℕ) → (image′ : List ℕ) → Cleared → Type 0
+Resets image r image′ x =
+    (r ≡ firstOr (imageRow image ∷ []) (numberOf (x .outcome))) × (image′ ≡ sized image (keptOf (x .outcome) (imageOf (x .sign)) image))
+
+pub reset-answers : (image : List ℕ) {r : ℕ} {image′ : List ℕ} (x : Cleared) → x ≡ clearedOf (recordOf image) → Resets image r image′ x
     → (r ≡ resetNo image) × (image′ ≡ resetImage image)
-reset-answers image x e h = (
-  h .0 ∙ ap (λ (z : Cleared). firstOr (imageRow image ∷ []) (numberOf (z .outcome))) e,
-  h .1 ∙ ap (λ (z : Cleared). sized image (keptOf (z .outcome) (imageOf (z .sign)) image)) e,
-)
+reset-answers image {r} {image′} x = subst (Resets image r image′)
 
 -- a refusal at once, where image and answer have their sizes
 pub no-answers : (size n : ℕ) (image answer told : List ℕ) → length image ≡ 186 → size ≤ length answer → answer ≡ told

@@ -31,7 +31,7 @@ use Rattle.cabi.proofs.Lays.{bytesOf, receive-answers}
 use Rattle.cabi.proofs.Parts.{places-run, places-again}
 
 -- the record behind what was heard has its outcome
-pub behind-outcome : (s : Sign) (h : Heard) → Sure h → behindOf s (h .collection) (h .outcome) .outcome ≡ h .outcome
+behind-outcome : (s : Sign) (h : Heard) → Sure h → behindOf s (h .collection) (h .outcome) .outcome ≡ h .outcome
 unfolding staysOf releaseOf
 behind-outcome s h sure = go (h .outcome) refl
   where
@@ -44,11 +44,11 @@ behind-outcome s h sure = go (h .outcome) refl
     go (Refused n) e = refl
 
 -- the image of a reset, and of another collection, by the run of the image
-pub fresh-image : (image : List ℕ) (r : Run) → r ≡ runOf image
+fresh-image : (image : List ℕ) (r : Run) → r ≡ runOf image
     → imageOf (freshOf (r .settings .dim) (r .settings .bright)) ≡ imageOf (resetOf (recordOf image))
 fresh-image image r e = ap (λ (x : Run). imageOf (freshOf (x .settings .dim) (x .settings .bright))) (e ∙ sym (record-run image))
 
-pub stored-image : (image : List ℕ) (c : Collection) (r : Run) → r ≡ runOf image
+stored-image : (image : List ℕ) (c : Collection) (r : Run) → r ≡ runOf image
     → imageOf (record { last = getD image 0 0; collection = c; run = r })
     ≡ imageOf (record { last = recordOf image .last; collection = c; run = recordOf image .run })
 unfolding recordOf

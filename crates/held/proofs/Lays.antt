@@ -43,7 +43,7 @@ number-on size n image answer big room =
     ∙ when-false (ltb (length answer) size) 252 n (le-ltb (length answer) size room))
 
 -- what an x answers and leaves is what y does, where y is x
-pub lays-as : {X : Type 0} (number : X → ℕ) (kept told : X → List ℕ) (size : ℕ) (image answer : List ℕ) {image′ answer′ : List ℕ} (x y : X)
+lays-as : {X : Type 0} (number : X → ℕ) (kept told : X → List ℕ) (size : ℕ) (image answer : List ℕ) {image′ answer′ : List ℕ} (x y : X)
     → length image ≡ 186 → size ≤ length answer → y ≡ x → image′ ≡ kept x → answer′ ≡ told x
     → (number x ≡ firstOr (imageRow image ∷ answerRow size answer ∷ []) (number y))
     × ((image′ ≡ lent size image answer image (kept y)) × (answer′ ≡ lent size image answer answer (told y)))

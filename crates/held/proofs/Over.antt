@@ -30,7 +30,7 @@ places-laid b y p r e size same ey =
     ∙ ap (λ (z : List ℕ). take 177 b ++ z) (append-nil y ∙ filled p _ y (omega arith) ey ∙ same)
 
 -- a body copied into an image
-pub body-laid : (b y body : List ℕ) → length b ≡ 186 → length body ≡ 84 → y ≡ take (length body) body ++ drop (length body) (take (177 - 93) (drop 93 b))
+body-laid : (b y body : List ℕ) → length b ≡ 186 → length body ≡ 84 → y ≡ take (length body) body ++ drop (length body) (take (177 - 93) (drop 93 b))
     → putMid 93 (177 - 93) b y ≡ take 93 b ++ (body ++ drop 177 b)
 body-laid b y body e size ey =
     let room : length (take (177 - 93) (drop 93 b)) ≡ 177 - 93 = cut-length b 93 (177 - 93) (omega arith) in

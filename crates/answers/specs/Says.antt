@@ -1,4 +1,6 @@
 -- What each answer of a sign is told as: its words, and the body behind them.
+-- 01: "A step performs one command and answers its kind .., its number as written, its text's place and length in the body, start column, scans and
+-- milliseconds; what a command lacks is 0".
 use Prim.Native.Nat.{ℕ}
 use mathlib.Core.List.{List, [], _∷_, _++_}
 use Rattle.program.specs.declared.Kind.{Kind}

@@ -23,9 +23,8 @@ use Rattle.sign.proofs.Releases.{release-is, whole-verdict}
 use Rattle.image.specs.Layout.{imageOf, recordOf, runOf, runIn, frontIn}
 use Rattle.image.proofs.Parts.{record-run, front-over}
 use Rattle.words.specs.Told.{toldIn, answerRow, firstOr}
-use Rattle.words.proofs.Lays.{told-room}
+use Rattle.words.proofs.Lays.{told-room, told-none}
 use Rattle.held.specs.Laid.{imageRow, lent, keptOf, startsIn, heardIn, heardBytes}
-use Rattle.held.proofs.Lays.{nothing-told}
 use Rattle.cabi.specs.Calls.{receiveNo, receiveImage, receiveAnswer}
 use Rattle.cabi.proofs.Lays.{bytesOf, receive-answers}
 use Rattle.cabi.proofs.Parts.{places-run, places-again}
@@ -100,7 +99,7 @@ module _ (h : Heard) (r : Run) (image answer : List ℕ) (sure : Sure h) (lens :
     told _,
   )
   behind (Released v) eo = released v eo
-  behind (Refused n) eo = (refl, sym (nothing-told 100 answer fits))
+  behind (Refused n) eo = (refl, sym (told-none 100 answer fits))
 
   pub heard-answers : (mid : ℕ) (bytes : List ℕ) {n : ℕ} {image′ answer′ : List ℕ}
       → behindOf (recordOf image) (h .collection) (h .outcome) ≡ receiveOf (recordOf image) mid bytes

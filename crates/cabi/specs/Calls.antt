@@ -1,4 +1,5 @@
--- What each call answers, makes of the image, and lays into the lent answer. What an answer is told as stands in `words` and `answers`.
+-- What each call answers, makes of the image, and lays into the lent answer. What an answer is told as stands in `words` and
+-- `answers`, what is left where a call is refused in `held`.
 use Prim.Native.Nat.{ℕ}
 use mathlib.Core.List.{List, [], _∷_}
 use mathlib.Core.Path.{_≡_}

@@ -24,7 +24,6 @@ use Rattle.sign.specs.Receive.{numberOf}
 use Rattle.image.specs.Layout.{imageOf, runIn, placesIn}
 use Rattle.words.specs.Words.{wordsOf}
 use Rattle.words.specs.Told.{answerRow, firstOr, toldIn}
-use Rattle.words.proofs.Lays.{told-room}
 use Rattle.answers.specs.Says.{receivedBytes, stepWords}
 use Rattle.held.specs.Laid.{imageRow, sized, lent, keptOf, ranOf, heardIn, heardBytes}
 
@@ -102,11 +101,6 @@ cleared-as x image o big e h = (
   ap numberOf (sym e) ∙ sized-number (numberOf (x .outcome)) image big,
   h ∙ ap (λ (z : Outcome). keptOf z (imageOf (x .sign)) image) (sym e) ∙ sized-on image (keptOf (x .outcome) (imageOf (x .sign)) image) big,
 )
-
--- nothing told is nothing changed
-pub nothing-told : (size : ℕ) (answer : List ℕ) → size ≤ length answer → answer ≡ toldIn size [] answer
-unfolding laid
-nothing-told size answer room = told-room size [] answer room
 
 -- an outcome that is none of the refusals
 pub not-refused : (o : Outcome) → OneOf (0 ∷ 1 ∷ 2 ∷ 3 ∷ 4 ∷ []) (tagOf the-type o) → (a b : List ℕ) → (0 ≡ numberOf o) × (a ≡ keptOf o a b)

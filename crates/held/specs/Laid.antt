@@ -53,7 +53,8 @@ startsIn Finite started as-was image = runIn started image
 startsIn Endless started as-was image = runIn started image
 startsIn (NoProgram n place) started as-was image = placesIn as-was image
 
--- an image with what was heard beside this run laid over it: the packets collected, or the whole body of this length
+-- an image with what was heard beside this run laid over it: the packets collected, or the whole body of this length. No call for C cites it: they
+-- speak of records (cabi/specs/Calls), and where the run is the image's own the two are equal (cabi/proofs/Receives).
 abbrev pub heardIn : Outcome → Collection → ℕ → Run → List ℕ → List ℕ
 heardIn Query c len r image = placesIn r image
 heardIn Reset c len r image = imageOf (freshOf (r .settings .dim) (r .settings .bright))

@@ -72,9 +72,9 @@ all-words ws out f i all room ef =
     ef ∙ ap (λ (p : List ℕ). laid (wordsOf p) out) (take-all i ws all) ∙ told-room (4 * length ws) (wordsOf ws) out (omega arith)
 
 -- nothing told is nothing changed
-pub told-none : (size : ℕ) (o : List ℕ) → size ≤ length o → o ≡ toldIn size (wordsOf []) o
-unfolding laid wordsOf
-told-none size o room = told-room size (wordsOf []) o room
+pub told-none : (size : ℕ) (o : List ℕ) → size ≤ length o → o ≡ toldIn size [] o
+unfolding laid
+told-none size o room = told-room size [] o room
 
 -- nothing is told without room, counted by words
 pub told-short : (n : ℕ) (bytes answer : List ℕ) → length answer / 4 < n → answer ≡ toldIn (4 * n) bytes answer

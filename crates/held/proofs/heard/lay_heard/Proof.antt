@@ -6,8 +6,9 @@ use Rattle.hear.specs.declared.Outcome.the-variants.{Reset, Stored, Released, R
 use Rattle.sign.specs.Receive.{numberOf}
 use Rattle.image.specs.Layout.{imageOf}
 use Rattle.words.specs.Told.{toldIn}
+use Rattle.words.proofs.Lays.{told-none}
 use Rattle.held.specs.Laid.{heardIn, heardBytes}
-use Rattle.held.proofs.Lays.{heard-as, plain-told, quiet, nothing-told, unsized, short}
+use Rattle.held.proofs.Lays.{heard-as, plain-told, quiet, unsized, short}
 use borrow.Author.Needs.{needs}
 use Rattle.held.proofs.heard.lay_heard.Statement.{statement}
 use Rattle.held.proofs.heard.lay_heard.Tie as tie
@@ -102,7 +103,7 @@ returns-5 c =
 returns-6 : tie.Need-returns-6
 returns-6 c =
     let a = c .before .before .before .before .before .before .before .before .args in
-    heard-as (a .heard) (a .run) (a .image .now) (a .answer .now) (Refused (c .before .outcome2 .given .0 .0)) (c .before .before .before .before .before .if1 .left) (c .before .before .before .before .if2 .left) (c .before .outcome2 .given .1) refl (nothing-told 100 (a .answer .now) (c .before .before .before .before .if2 .left))
+    heard-as (a .heard) (a .run) (a .image .now) (a .answer .now) (Refused (c .before .outcome2 .given .0 .0)) (c .before .before .before .before .before .if1 .left) (c .before .before .before .before .if2 .left) (c .before .outcome2 .given .1) refl (told-none 100 (a .answer .now) (c .before .before .before .before .if2 .left))
 
 same-length-7 : tie.Need-same-length-7
 same-length-7 c = search needs

@@ -70,6 +70,7 @@ returns-4 c =
     stepped-as (a .went) (a .image .now) (a .answer .now) Idle (c .before .before .before .before .before .before .before .before .before .before .before .before .if1 .left) (c .before .before .before .before .before .before .before .before .before .before .before .if2 .left) (c .before .before .before .before .before .before .before .before .enum-told .given .1) (c .before .before .lay-run2 .ensures) (c .before .before .before .before .before .before .lay-idle .ensures)
 
 returns-5 : tie.Need-returns-5
+unfolding wordsOf
 returns-5 c =
     let a = c .before .before .before .before .before .before .before .before .args in
     stepped-as (a .went) (a .image .now) (a .answer .now) (Refused (c .before .said2 .given .0 .0)) (c .before .before .before .before .before .if1 .left) (c .before .before .before .before .if2 .left) (c .before .said2 .given .1) refl (told-none 28 (a .answer .now) (c .before .before .before .before .if2 .left))

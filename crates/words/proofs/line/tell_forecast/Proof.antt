@@ -1,6 +1,7 @@
 -- `tell_forecast` lays the words of each answer; a refusal lays none.
 use mathlib.Core.Path.{sym, _∙_}
 use Rattle.reckon.specs.declared.reckon.Foretold.the-variants.{Ends, Endless, Refused}
+use Rattle.words.specs.Words.{wordsOf}
 use Rattle.words.specs.Told.{foretoldResult, foretoldWords}
 use Rattle.words.proofs.Lays.{answers, told-none}
 use Rattle.basis.proofs.Tests.{tests}
@@ -61,6 +62,7 @@ returns-3 c =
     (c .result2 .ensures ∙ t .0, t .1)
 
 returns-4 : tie.Need-returns-4
+unfolding wordsOf
 returns-4 c =
     let g = c .before .before .foretold2 .given in
     let a = c .before .before .before .before .before .before .args in

@@ -3,6 +3,7 @@ use mathlib.Core.Path.{sym}
 use Rattle.reader.specs.Read.{toldOf}
 use Rattle.reader.specs.declared.read.Reading.{Reading}
 use Rattle.reader.specs.declared.read.Reading.the-variants.{Query, Reset, Normal, Refused}
+use Rattle.words.specs.Words.{wordsOf}
 use Rattle.words.specs.Told.{readWords}
 use Rattle.words.proofs.Lays.{answers, told-none}
 use Rattle.basis.proofs.Tests.{tests}
@@ -81,6 +82,7 @@ returns-4 c =
     answers (λ (x : Reading). toldOf x .number) readWords 20 (a .answer .now) (Normal (g .0 .0) (g .0 .1 .0) (g .0 .1 .1 .0) (g .0 .1 .1 .1 .0)) (a .reading) (search needs) (sym (g .1)) (c .before .before .lay3 .ensures)
 
 returns-5 : tie.Need-returns-5
+unfolding wordsOf
 returns-5 c =
     let g = c .before .reading2 .given in
     let a = c .before .before .before .before .before .args in

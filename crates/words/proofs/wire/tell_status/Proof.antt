@@ -2,6 +2,7 @@
 use mathlib.Core.Path.{sym, _∙_}
 use Rattle.reply.specs.Reply.{numberOf}
 use Rattle.reply.specs.declared.Status.the-variants.{Heard, Refused}
+use Rattle.words.specs.Words.{wordsOf}
 use Rattle.words.specs.Told.{heardWords}
 use Rattle.words.proofs.Lays.{answers, told-none, heard-lays}
 use Rattle.basis.proofs.Tests.{tests}
@@ -46,6 +47,7 @@ returns-2 c =
     answers numberOf heardWords 12 (a .answer .now) (Heard (g .0 .0) (g .0 .1 .0) (g .0 .1 .1 .0)) (a .status) (search needs) (sym (g .1)) (c .before .before .lay .ensures ∙ heard-lays (g .0 .0) (g .0 .1 .0) (g .0 .1 .1 .0) (a .answer .now))
 
 returns-3 : tie.Need-returns-3
+unfolding wordsOf
 returns-3 c =
     let g = c .before .status2 .given in
     let a = c .before .before .before .before .before .args in

@@ -30,7 +30,8 @@ static inline uint32_t yd_word(const uint8_t *answer, size_t index)
     return (uint32_t)b[0] | (uint32_t)b[1] << 8 | (uint32_t)b[2] << 16 | (uint32_t)b[3] << 24;
 }
 
-/* Numbers for no. 251 and 252 come before all others, in that order, from calls that take an image or an answer. */
+/* Numbers for no. A call that takes an image says 251 first, then 16, then 252 if it has an answer, then the rest.
+ * A call that has an answer and takes no image says 252 first. */
 enum {
     YD_YES = 0,
     YD_UNDER_7 = 1,          /* under 7 bytes */
@@ -98,24 +99,27 @@ uint32_t yd_judge(const uint8_t *body, size_t body_len);
 enum { YD_FORECAST_ANSWER = 16 };
 uint32_t yd_forecast(const uint8_t *body, size_t body_len, uint8_t pace, uint8_t scans, uint8_t *answer, size_t answer_len);
 
-/* The sign: its record is an image of YD_IMAGE bytes that the caller keeps. An image of another size is 251, an unsound one 16. */
+/* The sign: its record is an image of YD_IMAGE bytes that the caller keeps. An image of another size is 251, an unsound one 16.
+ * One room holds the collected packets while the sign is Ready and the running body while it is Busy: it never needs both at once.
+ * While Ready, the data of position p stand from byte 9 + 14p on. While Busy, the body stands from byte 9 on, and the ID being
+ * collected, its total and all six lengths are 0. Room that is not used is zeros; anything else there is unsound.
+ * A sound record has one image only, so a query, a Repeat and an Idle step change no byte of it. */
 enum {
-    YD_IMAGE = 186,
-    YD_AT_LAST = 0,         /* last completed ID, 41h after a reset */
-    YD_AT_ID = 1,           /* ID being collected, 0 if none */
-    YD_AT_TOTAL = 2,        /* its packet total, 0 if none */
-    YD_AT_LENS = 3,         /* data length by position, 6 bytes; 0 is not held */
-    YD_AT_ROOM = 9,         /* data, 14 bytes for each position, 84 bytes */
-    YD_AT_BODY = 93,        /* running body, 84 bytes */
-    YD_AT_LENGTH = 177,     /* its length; 0 is Ready */
-    YD_AT_PLACE = 178,      /* place of the next command */
-    YD_AT_LOOP_PLACE = 179, /* place behind the open L, 0 outside loops */
-    YD_AT_LOOP_LEFT = 180,  /* passes left, this one counted, 0 outside loops */
-    YD_AT_PACE = 181,
-    YD_AT_SCANS = 182,      /* scans per shift */
-    YD_AT_SINK = 183,       /* AUX drive: 0 floats, all else sinks; a call that says yes and may change the image writes 0 or 1 */
-    YD_AT_DIM = 184,        /* dim threshold */
-    YD_AT_BRIGHT = 185      /* forced brightness, 0 if none */
+    YD_IMAGE = 102,
+    YD_AT_LAST = 0,        /* last completed ID, 41h after a reset */
+    YD_AT_ID = 1,          /* ID being collected, 0 if none */
+    YD_AT_TOTAL = 2,       /* its packet total, 0 if none */
+    YD_AT_LENS = 3,        /* data length by position, 6 bytes; 0 is not held */
+    YD_AT_ROOM = 9,        /* collected packets or running body, 84 bytes */
+    YD_AT_LENGTH = 93,     /* length of the running body; 0 is Ready */
+    YD_AT_PLACE = 94,      /* place of the next command */
+    YD_AT_LOOP_PLACE = 95, /* place after the open L, 0 outside loops */
+    YD_AT_LOOP_LEFT = 96,  /* passes left, this one counted, 0 outside loops */
+    YD_AT_PACE = 97,
+    YD_AT_SCANS = 98,      /* scans per shift */
+    YD_AT_SINK = 99,       /* AUX drive: 0 floats, 1 sinks; all else is unsound */
+    YD_AT_DIM = 100,       /* dim threshold */
+    YD_AT_BRIGHT = 101     /* forced brightness, 0 if none */
 };
 
 /* The image of a sign that was just switched on, whatever it held. No: 251. */
@@ -126,7 +130,7 @@ uint32_t yd_reset(uint8_t *image, size_t image_len);
 
 /* What bytes off the line do to the sign. Words: outcome; of a released body the program's number for no (0 if it is accepted), that
  * refusal's place, and the body's length; then the 84 bytes of the body, zeros behind its length. What is lacking is 0.
- * No: 251, 252, 16, 1 to 13. */
+ * No: 251, 16, 252, 1 to 13. */
 enum {
     YD_DID_QUERY = 1,    /* answer it with yd_reply */
     YD_DID_RESET = 2,
@@ -139,7 +143,7 @@ enum {
 uint32_t yd_receive(uint8_t *image, size_t image_len, uint8_t mid, const uint8_t *bytes, size_t bytes_len, uint8_t *answer, size_t answer_len);
 
 /* One step. Words: kind performed, its number as written, its text's place and length in the body, start column, scans, milliseconds;
- * what a command lacks is 0. A Ready sign is Idle: all words 0, and the record stays. No: 251, 252, 16. */
+ * what a command lacks is 0. A Ready sign is Idle: all words 0, and the record stays. No: 251, 16, 252. */
 enum {
     YD_IDLE = 0,
     YD_II = 1,

@@ -3,6 +3,7 @@
 
 use crate::lent::{Lent, Work};
 use crate::{archive, second};
+use reference::no::No;
 use reference::packet::{self, DATA_MOST, FRAME};
 use reference::sign::Sign;
 
@@ -64,6 +65,7 @@ pub fn all() -> Vec<Case> {
     cases.extend(writing());
     cases.extend(judging());
     cases.extend(receiving());
+    cases.extend(interrupting());
     cases.extend(stepping());
     cases.extend(asking());
     cases.extend(small());
@@ -134,6 +136,21 @@ fn receiving() -> Vec<Case> {
     ]
 }
 
+/// A query and a reset that come in while a program runs.
+fn interrupting() -> Vec<Case> {
+    let interrupt = |name, told, packet: [u8; FRAME], program: Program| {
+        let lent = Lent::new([MID, 0, 0, 0], &packet, running(program.body, program.shown));
+        Case { name, told, size: program.body.len(), function: function!(receive, record), lent }
+    };
+    let query =
+        |program| interrupt("receive_query", "receiving a query, running", special(packet::write_query), program);
+    let reset =
+        |program| interrupt("receive_reset", "receiving a reset, running", special(packet::write_reset), program);
+    let mut cases: Vec<Case> = MIXED.map(query).into();
+    cases.extend(MIXED.map(reset));
+    cases
+}
+
 fn stepping() -> Vec<Case> {
     let step = |name, told, body: &[u8], place| {
         let lent = Lent::new([0; 4], &[], running(body, place));
@@ -190,6 +207,13 @@ fn packets(body: &[u8]) -> Vec<Vec<u8>> {
     let mut out = vec![0; body.len() + FRAME * total];
     packet::write_transmission(MID, ID, body, &mut out).expect("the bodies here are short enough");
     out.chunks(DATA_MOST + FRAME).map(<[u8]>::to_vec).collect()
+}
+
+/// The packet that the writer of a query or reset writes.
+fn special(write: fn(u8, &mut [u8]) -> Result<usize, No>) -> [u8; FRAME] {
+    let mut packet = [0; FRAME];
+    write(MID, &mut packet).expect("a query or reset fits its size");
+    packet
 }
 
 /// A Ready sign that took these packets.

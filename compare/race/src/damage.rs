@@ -85,7 +85,7 @@ impl Damage {
     }
 }
 
-/// The values that a byte at this place is set to: every one in the small fields, the telling ones in the rooms.
+/// The values that a byte at this place is set to: every one in the small fields, the telling ones in the room.
 fn telling_values(place: usize, present: u8) -> Vec<u8> {
     const TELLING: [u8; 24] = [
         0, 1, 2, 6, 13, 14, 15, 0x1F, 0x20, 0x30, 0x31, 0x39, 0x3F, 0x41, 0x45, 0x46, 0x4C, 0x52, 0x5E, 0x7E, 0x7F,

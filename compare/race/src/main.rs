@@ -5,6 +5,7 @@ mod archive;
 mod bodies;
 mod case;
 mod damage;
+mod ground;
 mod packets;
 mod racer;
 mod random;

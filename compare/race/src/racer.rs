@@ -6,8 +6,10 @@ use crate::random::Random;
 use crate::shrink::shrink;
 use crate::tally::Tally;
 use reference::calls::{FORECAST_ANSWER, HEARD_ANSWER, READ_ANSWER, RECEIVE_ANSWER, STEP_ANSWER};
-use reference::image::{AT_BODY, AT_LENGTH, IMAGE};
-use reference::sign::Sign;
+use reference::image::{
+    AT_BRIGHT, AT_DIM, AT_ID, AT_LAST, AT_LENGTH, AT_LENS, AT_LOOP_LEFT, AT_LOOP_PLACE, AT_PACE, AT_PLACE, AT_ROOM,
+    AT_SCANS, AT_SINK, AT_TOTAL, IMAGE,
+};
 use std::fmt::Write;
 
 /// Bytes that could go on with an input, were it read too far.
@@ -118,17 +120,32 @@ fn inputs(case: &Case) -> String {
     lines
 }
 
-/// The fields of an image in words.
+/// The fields of an image in words, as they stand there, sound or not.
 fn fields(image: &[u8]) -> String {
-    let Ok(image) = <&[u8; IMAGE]>::try_from(image) else {
+    if image.len() != IMAGE {
         return String::new();
-    };
-    let Sign { last, id, total, lens, length, course, settings, .. } = Sign::from_image(image);
-    let running = image[AT_BODY..AT_LENGTH].iter().rposition(|&byte| byte != 0).map_or(0, |end| end + 1);
-    let body = image[AT_BODY..AT_BODY + running].escape_ascii();
-    let collected = format!("last {last:02X}h, collected {id:02X}h of {total} lens {lens:?}");
-    format!("    {collected}\n    body \"{body}\" length {length}\n    {course:?}\n    {settings:?}\n")
+    }
+    let lens = &image[AT_LENS..AT_ROOM];
+    let room = &image[AT_ROOM..AT_LENGTH];
+    let used = room.iter().rposition(|&byte| byte != 0).map_or(0, |last| last + 1);
+    let collected = format!("collected {:02X}h of {} lens {lens:?}", image[AT_ID], image[AT_TOTAL]);
+    let course = NAMED.map(|(name, at)| format!("{name} {}", image[at])).join(", ");
+    let (last, room) = (image[AT_LAST], room[..used].escape_ascii());
+    format!("    last {last:02X}h, {collected}\n    room \"{room}\", zeros after\n    {course}\n")
 }
+
+/// The numbers of an image from the running body's length on.
+const NAMED: [(&str, usize); 9] = [
+    ("length", AT_LENGTH),
+    ("place", AT_PLACE),
+    ("loop place", AT_LOOP_PLACE),
+    ("loop left", AT_LOOP_LEFT),
+    ("pace", AT_PACE),
+    ("scans", AT_SCANS),
+    ("AUX", AT_SINK),
+    ("dim", AT_DIM),
+    ("bright", AT_BRIGHT),
+];
 
 /// What each side left, and where the bytes are not the same.
 fn print_sides(case: &Case) {

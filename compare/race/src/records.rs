@@ -5,10 +5,33 @@ use crate::bodies;
 use crate::packets::frame;
 use crate::random::Random;
 use reference::image::{
-    AT_BODY, AT_BRIGHT, AT_DIM, AT_ID, AT_LAST, AT_LENGTH, AT_LENS, AT_LOOP_LEFT, AT_LOOP_PLACE, AT_PACE, AT_PLACE,
-    AT_ROOM, AT_SCANS, AT_SINK, AT_TOTAL, IMAGE,
+    AT_BRIGHT, AT_DIM, AT_ID, AT_LAST, AT_LENGTH, AT_LENS, AT_LOOP_LEFT, AT_LOOP_PLACE, AT_PACE, AT_PLACE, AT_ROOM,
+    AT_SCANS, AT_SINK, AT_TOTAL, IMAGE,
 };
-use reference::packet::{BODY_MOST, DATA_MOST};
+use reference::packet::{BODY_MOST, DATA_MOST, TOTAL_MOST};
+use reference::sign::Sign;
+
+/// Whether an image is one of a sound record; bytes of another size are none.
+pub fn is_sound(image: &[u8]) -> bool {
+    let image = <&[u8; IMAGE]>::try_from(image);
+    image.is_ok_and(|image| Sign::from_image(image).is_sound())
+}
+
+/// An image of a sound record.
+pub fn sound(random: &mut Random) -> Vec<u8> {
+    std::iter::repeat_with(|| record(random)).find(|image| is_sound(image)).unwrap_or_default()
+}
+
+/// An image of an unsound record.
+pub fn unsound(random: &mut Random) -> Vec<u8> {
+    std::iter::repeat_with(|| disturbed(random)).find(|image| !is_sound(image)).unwrap_or_default()
+}
+
+fn disturbed(random: &mut Random) -> Vec<u8> {
+    let mut image = record(random);
+    disturb(random, &mut image);
+    image
+}
 
 /// An image of a record that is sound more often than not.
 pub fn record(random: &mut Random) -> Vec<u8> {
@@ -31,7 +54,7 @@ fn set_settings(random: &mut Random, image: &mut [u8]) {
     let (pace, scans) = (random.within(1, 20) as u8, random.within(1, 6) as u8);
     image[AT_PACE] = random.pick(&[1, 4, 20, pace]);
     image[AT_SCANS] = random.pick(&[1, 6, scans]);
-    image[AT_SINK] = random.pick(&[0, 0, 0, 1, 1, 2, 0xFF]);
+    image[AT_SINK] = random.pick(&[0, 0, 0, 1, 1]);
     image[AT_DIM] = random.pick(&[1, 16, 255]);
     image[AT_BRIGHT] = random.pick(&[0, 0, 2, 15, 31]);
 }
@@ -55,11 +78,11 @@ fn collect(random: &mut Random, image: &mut [u8]) {
     }
 }
 
-/// Puts a program in, and the place at one of its commands.
+/// Puts a program in the room, and the place at one of its commands.
 fn run(random: &mut Random, image: &mut [u8]) {
     let body = if random.chance(90) { bodies::program(random) } else { bodies::body(random) };
     let length = body.len().min(BODY_MOST);
-    image[AT_BODY..AT_BODY + length].copy_from_slice(&body[..length]);
+    image[AT_ROOM..AT_ROOM + length].copy_from_slice(&body[..length]);
     image[AT_LENGTH] = length as u8;
     set_course(random, image);
 }
@@ -67,7 +90,7 @@ fn run(random: &mut Random, image: &mut [u8]) {
 /// Sets place, loop place and count to fit one of the running body's carets.
 fn set_course(random: &mut Random, image: &mut [u8]) {
     let length = usize::from(image[AT_LENGTH]).min(BODY_MOST);
-    let body = image[AT_BODY..AT_BODY + length].to_vec();
+    let body = image[AT_ROOM..AT_ROOM + length].to_vec();
     let carets: Vec<usize> = (0..length).filter(|&place| body[place] == b'^').collect();
     if carets.is_empty() {
         return;
@@ -96,7 +119,7 @@ fn loop_around(body: &[u8], carets: &[usize], place: usize) -> (u8, u8) {
 
 /// Changes the record in a way that likely makes it unsound, often where one changed byte would not do.
 fn disturb(random: &mut Random, image: &mut [u8]) {
-    match random.below(6) {
+    match random.below(11) {
         0 => collect(random, image),
         1 => image[AT_LENS..AT_ROOM].fill(DATA_MOST as u8),
         2 => {
@@ -106,12 +129,44 @@ fn disturb(random: &mut Random, image: &mut [u8]) {
         }
         3 => image[AT_LAST] = image[AT_ID],
         4 => disturb_collected(random, image),
+        5 | 6 => stray_collection(random, image),
+        7 | 8 => stray_room(random, image),
+        9 => image[AT_SINK] = random.pick(&[2, 3, 0x80, 0xFE, 0xFF]),
         _ => {
             for _ in 0..2 {
                 let at = random.below(IMAGE);
                 image[at] = random.byte();
             }
         }
+    }
+}
+
+/// Sets bytes that tell of a collection and leaves the room: one of them, or all of one that the room could hold.
+fn stray_collection(random: &mut Random, image: &mut [u8]) {
+    let at = random.within(AT_ID, AT_ROOM - 1);
+    if random.chance(50) {
+        image[at] = random.pick(&[1, 2, 6, DATA_MOST as u8, 0xFF]);
+        return;
+    }
+    let full = usize::from(image[AT_LENGTH]).min(BODY_MOST) / DATA_MOST;
+    image[AT_ID] = random.below(0x40) as u8;
+    image[AT_TOTAL] = (full + 1).clamp(2, TOTAL_MOST) as u8;
+    image[AT_LENS..AT_LENS + full].fill(DATA_MOST as u8);
+}
+
+/// Sets bytes of the room that nothing accounts for, or takes away what accounted for them.
+fn stray_room(random: &mut Random, image: &mut [u8]) {
+    let any = random.below(BODY_MOST);
+    let after = usize::from(image[AT_LENGTH]).min(BODY_MOST - 1);
+    let position = random.below(TOTAL_MOST);
+    let slot = AT_ROOM + DATA_MOST * position;
+    match random.below(6) {
+        0 => image[AT_ROOM + any] ^= random.pick(&[1, 0x5E, 0x80]),
+        1 => image[AT_ROOM + after] = random.pick(&[1, b'^', b'A']),
+        2 => image[slot + DATA_MOST - 1] = random.pick(&[1, b'^', b'A']),
+        3 => image[slot..slot + DATA_MOST].fill(b' '),
+        4 => image[AT_ID..AT_ROOM].fill(0),
+        _ => image[AT_LENGTH..=AT_LOOP_LEFT].fill(0),
     }
 }
 

@@ -3,7 +3,7 @@
 
 use crate::case::{Case, Function, differ};
 use crate::packets::mend;
-use reference::image::{AT_BODY, AT_ID, AT_LENGTH, AT_LOOP_LEFT, AT_LOOP_PLACE, AT_PLACE, IMAGE};
+use reference::image::{AT_ID, AT_LENGTH, AT_LOOP_LEFT, AT_LOOP_PLACE, AT_PLACE, AT_ROOM, IMAGE};
 
 /// The smallest case that single simplifications lead to.
 pub fn shrink(mut case: Case) -> Case {
@@ -116,7 +116,8 @@ fn simpler_image(case: &Case, candidates: &mut Vec<Case>) {
         return;
     }
     let plain = power_on_image();
-    for (start, end) in [(AT_ID, AT_BODY), (AT_BODY, AT_LOOP_LEFT + 1), (AT_PLACE, AT_LOOP_LEFT + 1)] {
+    let parts = [(AT_ID, AT_LENGTH), (AT_ID, AT_ROOM), (AT_ROOM, AT_LOOP_LEFT + 1), (AT_PLACE, AT_LOOP_LEFT + 1)];
+    for (start, end) in parts {
         let mut candidate = case.clone();
         candidate.image[start..end].fill(0);
         candidates.push(candidate);
@@ -133,11 +134,11 @@ fn simpler_image(case: &Case, candidates: &mut Vec<Case>) {
 
 /// Drops stretches of the running body, with the places behind them moved along.
 fn shorter_running_body(case: &Case, candidates: &mut Vec<Case>) {
-    let length = usize::from(case.image[AT_LENGTH]).min(AT_LENGTH - AT_BODY);
+    let length = usize::from(case.image[AT_LENGTH]).min(AT_LENGTH - AT_ROOM);
     for (start, end) in stretches(length) {
         let mut candidate = case.clone();
         let image = &mut candidate.image;
-        image.copy_within(AT_BODY + end..AT_LENGTH, AT_BODY + start);
+        image.copy_within(AT_ROOM + end..AT_LENGTH, AT_ROOM + start);
         image[AT_LENGTH - (end - start)..AT_LENGTH].fill(0);
         image[AT_LENGTH] = (length - (end - start)) as u8;
         for at in [AT_PLACE, AT_LOOP_PLACE] {

@@ -1,23 +1,24 @@
 //! Buffers and images of every size, once in each race.
-//! Answers to the numbers 34, 251 and 252.
+//! Answers to the numbers 34, 251 and 252, and to 16 between the last two.
 
 use crate::bodies;
 use crate::case::{Case, Function};
 use crate::packets;
 use crate::racer::Racer;
-use crate::records::{packet_for, record};
+use crate::records::{packet_for, record, sound, unsound};
 use reference::image::IMAGE;
 
 /// How far the sizes go beyond what any call needs.
 const MORE: usize = 24;
 
-/// Each call that is lent a buffer, with every size up to more than it needs.
+/// Each call that is lent a buffer, with every size up to more than it needs; those with an image on a sound and an unsound one.
 pub fn buffers(racer: &mut Racer) -> Option<()> {
     for size in 0..=126 + MORE {
         let out = racer.random.bytes(size);
         let body = bodies::program(&mut racer.random);
         let long = racer.random.bytes(84);
-        let sign = record(&mut racer.random);
+        let sign = sound(&mut racer.random);
+        let wrong = unsound(&mut racer.random);
         let packet = packet_for(&mut racer.random, &sign, 0x80);
         let reply = packets::frame(0x81, 0x41, b'R', b"F");
         let cases = [
@@ -31,10 +32,14 @@ pub fn buffers(racer: &mut Racer) -> Option<()> {
             Case::new(Function::ReadPacket, &[0x80]).bytes(packet.clone()),
             Case::new(Function::ReadReply, &[0x80]).bytes(reply),
             Case::new(Function::Forecast, &[4, 1]).bytes(body),
-            Case::new(Function::Receive, &[0x80]).bytes(packet).image(&sign),
+            Case::new(Function::Receive, &[0x80]).bytes(packet.clone()).image(&sign),
+            Case::new(Function::Receive, &[0x80]).bytes(packet).image(&wrong),
             Case::new(Function::Step, &[]).image(&sign),
+            Case::new(Function::Step, &[]).image(&wrong),
             Case::new(Function::Reply, &[0x80, 1]).image(&sign),
+            Case::new(Function::Reply, &[0x80, 1]).image(&wrong),
             Case::new(Function::CopyBody, &[]).image(&sign),
+            Case::new(Function::CopyBody, &[]).image(&wrong),
         ];
         for case in cases {
             racer.call(case.out(out.clone()))?;

@@ -2,6 +2,7 @@
 //! Answers to the C interface's lists, so that a reader sees what the generator reaches.
 
 use crate::case::{After, Case, Function, SHAPES};
+use crate::ground::Grounds;
 
 /// A count over the values that one word of an answer, or a result, can take.
 struct Group {
@@ -53,6 +54,7 @@ pub struct Tally {
     calls: [u64; SHAPES.len()],
     noes: Vec<[u64; VALUES]>,
     groups: Vec<[u64; VALUES]>,
+    grounds: Grounds,
 }
 
 impl Tally {
@@ -61,6 +63,7 @@ impl Tally {
             calls: [0; SHAPES.len()],
             noes: vec![[0; VALUES]; SHAPES.len()],
             groups: vec![[0; VALUES]; GROUPS.len()],
+            grounds: Grounds::new(),
         }
     }
 
@@ -78,6 +81,7 @@ impl Tally {
                 counts[(value as usize).min(VALUES - 1)] += 1;
             }
         }
+        self.grounds.count(case, after);
     }
 
     /// Prints all counts.
@@ -90,6 +94,7 @@ impl Tally {
             println!("{}:", group.name);
             print_counts(" ", counts);
         }
+        self.grounds.print();
     }
 
     /// What should have occurred and did not, or occurred and should not have.
@@ -102,6 +107,7 @@ impl Tally {
         for (group, counts) in GROUPS.iter().zip(&self.groups) {
             check(group.name, group.expected, counts, &mut faults);
         }
+        faults.extend(self.grounds.faults());
         faults
     }
 }

@@ -1,5 +1,6 @@
 //! One function for each call of the C interface, over lent slices, with the reference behind it.
-//! Answers to that interface: its results, its answers in words, and its numbers 251 and 252.
+//! Answers to that interface: its results, its answers in words, and its numbers 251 and 252. A call that takes an image
+//! says 251 first, then 16, then 252, then the rest; one without says 252 first.
 
 use crate::image::IMAGE;
 use crate::machine::{Forecast, Step, forecast as forecast_of};
@@ -38,6 +39,11 @@ fn written(result: Result<usize, No>) -> u32 {
         Ok(length) => yes(length),
         Err(no) => no as u32,
     }
+}
+
+/// The no to an answer that is too short for a record's call: an unsound record is told first.
+fn too_short(sign: &Sign) -> u32 {
+    if sign.is_sound() { ANSWER_SHORT } else { No::Unsound as u32 }
 }
 
 /// Lays words at the front of an answer, lowest byte first.
@@ -144,10 +150,10 @@ pub fn receive(image: &mut [u8], mid: u8, bytes: &[u8], answer: &mut [u8]) -> u3
     let Ok(image) = <&mut [u8; IMAGE]>::try_from(image) else {
         return IMAGE_SIZE;
     };
-    let Some(answer) = answer.first_chunk_mut::<RECEIVE_ANSWER>() else {
-        return ANSWER_SHORT;
-    };
     let mut sign = Sign::from_image(image);
+    let Some(answer) = answer.first_chunk_mut::<RECEIVE_ANSWER>() else {
+        return too_short(&sign);
+    };
     match sign.receive(mid, bytes) {
         Err(no) => no as u32,
         Ok(received) => {
@@ -183,10 +189,10 @@ pub fn step(image: &mut [u8], answer: &mut [u8]) -> u32 {
     let Ok(image) = <&mut [u8; IMAGE]>::try_from(image) else {
         return IMAGE_SIZE;
     };
-    let Some(answer) = answer.first_chunk_mut::<STEP_ANSWER>() else {
-        return ANSWER_SHORT;
-    };
     let mut sign = Sign::from_image(image);
+    let Some(answer) = answer.first_chunk_mut::<STEP_ANSWER>() else {
+        return too_short(&sign);
+    };
     match sign.step() {
         Err(no) => no as u32,
         Ok(step) => {

@@ -15,14 +15,15 @@ const SCANS_IN: u32 = 7;
 pub struct Settings {
     pub pace: u8,
     pub scans: u8,
-    pub sink: bool,
+    /// The AUX drive: 0 floats, 1 sinks.
+    pub sink: u8,
     pub dim: u8,
     pub bright: u8,
 }
 
 impl Settings {
     /// The settings of a sign just switched on.
-    pub const POWER_ON: Settings = Settings { pace: 4, scans: 1, sink: false, dim: 16, bright: 0 };
+    pub const POWER_ON: Settings = Settings { pace: 4, scans: 1, sink: 0, dim: 16, bright: 0 };
 
     /// The settings behind a reset, which leaves what concerns brightness.
     pub fn after_reset(self) -> Settings {
@@ -31,7 +32,8 @@ impl Settings {
 
     /// Whether every setting is one that a command could have left.
     pub fn are_sound(&self) -> bool {
-        pacing_in_range(self.pace, self.scans) && self.dim != 0 && matches!(self.bright, 0 | 2..=31)
+        let lighting = self.dim != 0 && matches!(self.bright, 0 | 2..=31);
+        pacing_in_range(self.pace, self.scans) && self.sink <= 1 && lighting
     }
 
     /// Takes over what a command sets.
@@ -39,8 +41,8 @@ impl Settings {
         match command.kind {
             Kind::P => self.pace = command.number,
             Kind::Equals => self.scans = command.number,
-            Kind::XS => self.sink = true,
-            Kind::XF => self.sink = false,
+            Kind::XS => self.sink = 1,
+            Kind::XF => self.sink = 0,
             Kind::XD => self.dim = command.number,
             Kind::XB if command.number < 2 => self.bright = 0,
             Kind::XB => self.bright = command.number.min(31),

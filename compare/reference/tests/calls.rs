@@ -1,9 +1,8 @@
-//! Images and the calls over slices: sizes, words, and what stays.
-//! Answers to the C interface's numbers 251 and 252 and its layout.
+//! The calls over slices: sizes, words, and what stays.
+//! Answers to the C interface's numbers 251 and 252 and its answers; the images byte by byte have tests of their own.
 
 use reference::calls;
-use reference::image::{AT_BODY, AT_LENGTH, AT_SINK, IMAGE};
-use reference::sign::Sign;
+use reference::image::{AT_LENGTH, AT_ROOM, IMAGE};
 
 const HI: [u8; 12] = [0x80, 0x7F, 0x0C, 0x05, 0x10, 0x5E, 0x49, 0x49, 0x48, 0x49, 0x00, 0x5F];
 
@@ -15,19 +14,6 @@ fn power_on() -> [u8; IMAGE] {
 
 fn words<const COUNT: usize>(answer: &[u8]) -> [u32; COUNT] {
     std::array::from_fn(|index| u32::from_le_bytes(answer[4 * index..][..4].try_into().unwrap()))
-}
-
-#[test]
-fn an_image_is_a_record_and_back() {
-    let image: [u8; IMAGE] = std::array::from_fn(|index| index as u8 ^ 0x5A);
-    let mut back = [0; IMAGE];
-    Sign::from_image(&image).write_image(&mut back);
-    assert_eq!(back[AT_SINK], 1);
-    back[AT_SINK] = image[AT_SINK];
-    assert_eq!(back, image);
-    assert_eq!(&power_on()[177..], [0, 0, 0, 0, 4, 1, 0, 16, 0]);
-    assert_eq!(power_on()[0], 0x41);
-    assert!(power_on()[1..177].iter().all(|&byte| byte == 0));
 }
 
 #[test]
@@ -43,9 +29,9 @@ fn sizes_come_first() {
         assert_eq!(image, vec![7; size]);
     }
     let mut unsound = [7; IMAGE];
-    assert_eq!(calls::receive(&mut unsound, 0, &[], &mut [0; 99]), 252);
+    assert_eq!(calls::receive(&mut unsound, 0, &[], &mut [0; 99]), 16);
     assert_eq!(calls::receive(&mut unsound, 0, &[], &mut [0; 100]), 16);
-    assert_eq!(calls::step(&mut unsound, &mut [0; 27]), 252);
+    assert_eq!(calls::step(&mut unsound, &mut [0; 27]), 16);
     assert_eq!(calls::step(&mut unsound, &mut [0; 28]), 16);
     assert_eq!(calls::reset(&mut unsound), 16);
     assert_eq!(calls::reply(&unsound, 0, 0, &mut []), 16);
@@ -85,7 +71,7 @@ fn a_message_from_line_to_end() {
         (&answer[16..21], &answer[21..100], &answer[100..]),
         (b"^IIHI".as_slice(), [0; 79].as_slice(), [0xEE; 4].as_slice())
     );
-    assert_eq!((image[AT_LENGTH], &image[AT_BODY..AT_BODY + 5]), (5, b"^IIHI".as_slice()));
+    assert_eq!((image[AT_LENGTH], &image[AT_ROOM..AT_ROOM + 5]), (5, b"^IIHI".as_slice()));
     assert_eq!(calls::copy_body(&image, &mut answer), 5 << 8);
     assert_eq!(calls::step(&mut image, &mut answer), 0);
     assert_eq!(words(&answer), [1, 0, 3, 2, 42, 0, 0]);
@@ -94,14 +80,4 @@ fn a_message_from_line_to_end() {
     let mut expected = power_on();
     expected[0] = 5;
     assert_eq!(image, expected);
-}
-
-#[test]
-fn the_aux_byte_is_written_as_0_or_1() {
-    let mut image = power_on();
-    image[AT_SINK] = 7;
-    assert_eq!(calls::receive(&mut image, 0x81, &HI, &mut [0; 100]), 5);
-    assert_eq!(image[AT_SINK], 7);
-    assert_eq!(calls::step(&mut image, &mut [0; 28]), 0);
-    assert_eq!(image[AT_SINK], 1);
 }

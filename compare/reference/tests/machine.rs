@@ -70,7 +70,7 @@ fn loops_run_their_count() {
     let ran = steps(&mut sign);
     assert_eq!(kinds(&ran), [L, XS, E, XS, E, W]);
     assert_eq!(ran[0].number, 2);
-    assert!(sign.settings.sink);
+    assert_eq!(sign.settings.sink, 1);
 }
 
 #[test]
@@ -102,7 +102,7 @@ fn endless_programs_go_round() {
 fn settings_last() {
     let mut sign = running(b"^P20^=6^XS^XD255^XB2^Y16", 4, 1);
     steps(&mut sign);
-    let set = Settings { pace: 20, scans: 6, sink: true, dim: 255, bright: 2 };
+    let set = Settings { pace: 20, scans: 6, sink: 1, dim: 255, bright: 2 };
     assert_eq!(sign.settings, set);
     for (body, bright) in [("^XB1", 0), ("^XB0", 0), ("^XB31", 31), ("^XB32", 31), ("^XB2", 2)] {
         let mut sign = running(body.as_bytes(), 4, 1);

@@ -140,6 +140,7 @@ fn settings_and_last_id_in_range() {
             assert_eq!(sound_with(&sign, |sign| sign.last = byte), byte < 0x40 || byte == 0x41);
             assert_eq!(sound_with(&sign, |sign| sign.settings.pace = byte), (1..=20).contains(&byte));
             assert_eq!(sound_with(&sign, |sign| sign.settings.scans = byte), (1..=6).contains(&byte));
+            assert_eq!(sound_with(&sign, |sign| sign.settings.sink = byte), byte < 2);
             assert_eq!(sound_with(&sign, |sign| sign.settings.dim = byte), byte > 0);
             assert_eq!(sound_with(&sign, |sign| sign.settings.bright = byte), byte < 32 && byte != 1);
         }

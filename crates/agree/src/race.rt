@@ -14,7 +14,7 @@ fn set(pace: u8, scans: u8) -> Settings {
     Settings {
         pace,
         scans,
-        sink: true,
+        sink: 1,
         dim: 99,
         bright: 7,
     }
@@ -35,8 +35,8 @@ pub struct Ran {
     pub ready: bool,
 }
 
-// A run stepped until it is Ready, 4,000 times at most.
-fn stepped(start: Run) -> Ran {
+// A run stepped until it is Ready, 4,000 times at most, with its body at the front of this room.
+fn stepped(start: Run, room: &[u8]) -> Ran {
     let mut run = start;
     let mut totals = Totals::none();
     let mut i: usize = 0;
@@ -47,7 +47,7 @@ fn stepped(start: Run) -> Ran {
                 ready: true,
             };
         }
-        let one = run.step();
+        let one = run.step(room);
         let answer = one.answer;
         totals = with(totals, answer);
         let then = one.run;
@@ -86,13 +86,12 @@ fn agrees(made: Made, pace: u8, scans: u8) -> bool {
     }
     let told = reckon::forecast(&body[..len], pace, scans);
     let run = Run {
-        body,
         len,
         place: 0,
         inner: Loop { place: 0, left: 0 },
         settings: set(pace, scans),
     };
-    let ran = stepped(run);
+    let ran = stepped(run, &body);
     let totals = ran.totals;
     match told {
         Foretold::Ends(foretold) => {

@@ -1,47 +1,54 @@
 -- The calls' outcomes from those of the calls below: a sign in an image, and what is told of it.
-use Prim.Native.Nat.{ℕ, _≤_}
+use Prim.Native.Nat.{ℕ, _≤_, _<_}
+use mathlib.Core.Bool.{Bool, true, false, not}
 use mathlib.Core.List.{List, [], _∷_}
-use mathlib.Core.Path.{_≡_, sym, ap, _∙_, subst}
-use mathlib.Core.Bool.{not}
+use mathlib.Core.Path.{_≡_, refl, sym, ap, _∙_, subst}
+use native.Mathlib.Omega.{arith}
+use lib.Dec.{eqb, ltb}
 use lib.ListN.{length}
-use borrow.Author.Tests.{eq-eqb}
+use borrow.Author.Tests.{eq-eqb, ne-eqb, lt-ltb, le-ltb}
 use Rattle.basis.specs.Bytes.{laid}
+use Rattle.basis.specs.Choice.{when}
 use Rattle.basis.specs.Rows.{Row, firstOf}
-use Rattle.basis.proofs.Choices.{when-false}
+use Rattle.basis.proofs.Choices.{when-true, when-false}
 use Rattle.packet.specs.Write.{Writes, answerOf, bufferOf}
 use Rattle.packet.specs.declared.write.Written.{Written}
-use Rattle.machine.specs.declared.Stepped.{Stepped as RunStepped}
-use Rattle.sign.specs.Receive.{receiveOf, numberOf}
-use Rattle.sign.specs.Reset.{clearedOf}
-use Rattle.sign.specs.Step.{stepOf, numberOf as stepNumber}
+use Rattle.machine.specs.Step.{numberOf as stepNumber}
+use Rattle.machine.specs.declared.Answer.{Answer}
+use Rattle.machine.specs.declared.Answer.the-variants.{Did, Idle, Refused as NoStep}
+use Rattle.hear.specs.Hear.{numberOf}
+use Rattle.hear.specs.declared.Outcome.{Outcome}
+use Rattle.hear.specs.declared.Outcome.the-variants.{Query, Reset, Repeat, Stored, Released, Refused}
+use Rattle.sign.specs.Sound.{soundOf}
+use Rattle.sign.specs.Join.{staysOf}
+use Rattle.sign.specs.Receive.{receiveOf}
+use Rattle.sign.specs.Reset.{resetOf, clearedOf}
+use Rattle.sign.specs.Step.{stepOf}
 use Rattle.sign.specs.Tell.{toldRows}
 use Rattle.sign.specs.declared.Sign.{Sign}
-use Rattle.sign.specs.declared.Received.{Received}
 use Rattle.sign.specs.declared.Cleared.{Cleared}
+use Rattle.sign.specs.declared.Received.{Received}
 use Rattle.sign.specs.declared.Stepped.{Stepped}
-use Rattle.sign.proofs.Stepping.{steppedOf}
-use Rattle.image.specs.Layout.{imageOf, recordOf, runIn}
-use Rattle.image.proofs.Parts.{run-over}
+use Rattle.sign.proofs.Joining.{unsound-receives}
+use Rattle.sign.proofs.Stepping.{unsound-steps}
+use Rattle.image.specs.Layout.{recordOf}
 use Rattle.words.specs.Words.{wordsOf, wroteOf}
 use Rattle.words.specs.Told.{answerRow, firstOr, toldIn}
-use Rattle.words.proofs.Lays.{told-room}
-use Rattle.answers.specs.Says.{receivedBytes, stepWords}
-use Rattle.held.specs.Laid.{imageRow, sized, lent, keptOf, ranOf}
-use Rattle.held.proofs.Lays.{lent-on, number-on}
-use Rattle.cabi.specs.Calls.{Tells, receiveNo, receiveImage, receiveAnswer, resetNo, resetImage, stepNo, stepImage, stepAnswer, imageRows}
+use Rattle.words.specs.Says.{receivedBytes, stepWords}
+use Rattle.cabi.specs.Calls.{Tells, guarded, keptOf, tellRows}
 
 -- a writer's outcomes, as its result
 pub tells : {rows : List Row} {bytes out after : List ℕ} {w : Written} {r : ℕ} → Writes rows bytes out w after → r ≡ wroteOf w → Tells rows bytes out r after
 tells h e = record { told = e ∙ ap wroteOf (h .answered); left = h .left }
 
 -- the same of a sign in an image of the right size
-pub sign-tells : (bytes : Sign → List ℕ) (image out : List ℕ) {after : List ℕ} {s : Sign} {w : Written} {r : ℕ} → length image ≡ 186
+pub sign-tells : (bytes : Sign → List ℕ) (image out : List ℕ) {after : List ℕ} {s : Sign} {w : Written} {r : ℕ} → length image ≡ 102
     → s ≡ recordOf image → Writes (toldRows s (bytes s) out) (bytes s) out w after → r ≡ wroteOf w
-    → Tells (imageRows bytes image out) (bytes (recordOf image)) out r after
+    → Tells (tellRows bytes image out) (bytes (recordOf image)) out r after
 sign-tells bytes image out {after} {s} {w} size e h er =
     let rows = toldRows (recordOf image) (bytes (recordOf image)) out in
     let h′ = subst (λ (x : Sign). Writes (toldRows x (bytes x) out) (bytes x) out w after) e h in
-    let guard : firstOf rows ≡ firstOf (imageRows bytes image out) = sym (when-false _ 251 (firstOf rows) (ap not (eq-eqb (length image) 186 size))) in
+    let guard : firstOf rows ≡ firstOf (tellRows bytes image out) = sym (when-false _ 251 (firstOf rows) (ap not (eq-eqb (length image) 102 size))) in
     record {
       told = er ∙ ap wroteOf (h′ .answered ∙ ap (λ (n : ℕ). answerOf n (bytes (recordOf image))) guard);
       left = h′ .left ∙ ap (λ (n : ℕ). bufferOf n (bytes (recordOf image)) out) guard;
@@ -57,61 +64,132 @@ pub told-of : {X : Type 0} (number : X → ℕ) (words : X → List ℕ) (size :
     → Told number words size answer r after y
 told-of number words size answer {r} {after} x y = subst (Told number words size answer r after)
 
--- the outcome of a step of the sign in an image
-abbrev pub Steps : (image answer : List ℕ) → (r : ℕ) → (image′ answer′ : List ℕ) → Stepped → Type 0
-Steps image answer r image′ answer′ x =
-    (r ≡ firstOr (imageRow image ∷ answerRow 28 answer ∷ []) (stepNumber (x .answer)))
-    × ((image′ ≡ lent 28 image answer image (ranOf (x .answer) (imageOf (x .sign)) image))
-    × (answer′ ≡ lent 28 image answer answer (laid (wordsOf (stepWords (x .answer))) answer)))
+-- what a call leaves of a lent list, by its number
+pub kept-no : (n : ℕ) (as-was next : List ℕ) → (n ≡ 0 → ⊥) → as-was ≡ keptOf n as-was next
+kept-no n as-was next h = sym (when-false (eqb n 0) next as-was (ne-eqb n 0 h))
 
-pub step-answers : (image answer : List ℕ) {r : ℕ} {image′ answer′ : List ℕ} (x : Stepped) → x ≡ stepOf (recordOf image)
-    → Steps image answer r image′ answer′ x
-    → (r ≡ stepNo image answer) × ((image′ ≡ stepImage image answer) × (answer′ ≡ stepAnswer image answer))
-step-answers image answer {r} {image′} {answer′} x = subst (Steps image answer r image′ answer′)
+pub kept-yes : (n : ℕ) (as-was next : List ℕ) → n ≡ 0 → next ≡ keptOf n as-was next
+kept-yes n as-was next h = sym (when-true (eqb n 0) next as-was (eq-eqb n 0 h))
 
--- the same by the run: what it left, laid over the image
-pub run-answers : (image answer : List ℕ) {r : ℕ} {image′ answer′ : List ℕ} (w : RunStepped) → length image ≡ 186 → 28 ≤ length answer
-    → steppedOf (recordOf image) w ≡ stepOf (recordOf image)
-    → (r ≡ firstOr (imageRow image ∷ answerRow 28 answer ∷ []) (stepNumber (w .answer)))
-    × ((image′ ≡ lent 28 image answer image (ranOf (w .answer) (runIn (w .run) image) image))
-    × (answer′ ≡ lent 28 image answer answer (toldIn 28 (wordsOf (stepWords (w .answer))) answer)))
-    → (r ≡ stepNo image answer) × ((image′ ≡ stepImage image answer) × (answer′ ≡ stepAnswer image answer))
-run-answers image answer w size room e h =
-    step-answers image answer (steppedOf (recordOf image) w) e (
-      h .0,
-      (
-        h .1 .0 ∙ ap (λ (i : List ℕ). lent 28 image answer image (ranOf (w .answer) i image)) (run-over image (w .run) size),
-        h .1 .1 ∙ ap (lent 28 image answer answer) (sym (told-room 28 (wordsOf (stepWords (w .answer))) answer room)),
-      ),
-    )
+-- the guard lets pass what the call itself refuses by 16 where the record is unsound
+pub guard-is : (image : List ℕ) (rows : List Row) (n : ℕ) → length image ≡ 102 → (soundOf (recordOf image) ≡ false → n ≡ 16) → firstOr rows n ≡ n
+    → n ≡ firstOr (guarded image rows) n
+guard-is image rows n size ill own =
+    sym (when-false _ 251 (when (not (soundOf (recordOf image))) 16 (firstOr rows n)) (ap not (eq-eqb (length image) 102 size)) ∙ go (soundOf (recordOf image)) refl)
+  where
+    go : (t : Bool) → soundOf (recordOf image) ≡ t → when (not t) 16 (firstOr rows n) ≡ n
+    go true e = own
+    go false e = sym (ill e)
 
--- the bytes told of a receive, and its outcome where the sign in an image receives
-abbrev pub bytesOf : Received → List ℕ
-bytesOf x = receivedBytes (x .outcome) (x .body) (x .len)
+-- the outcome of a call on a sign in an image that tells these bytes and leaves this image, where it is not refused
+abbrev pub Went : (size : ℕ) → (image answer : List ℕ) → (n : ℕ) → (bytes next : List ℕ) → (r : ℕ) → (image′ answer′ : List ℕ) → Type 0
+Went size image answer n bytes next r image′ answer′ =
+    let all = firstOr (guarded image (answerRow size answer ∷ [])) n in
+    (r ≡ all) × ((image′ ≡ keptOf all image next) × (answer′ ≡ keptOf all answer (laid bytes answer)))
 
-abbrev pub Receives : (image answer : List ℕ) → (r : ℕ) → (image′ answer′ : List ℕ) → Received → Type 0
-Receives image answer r image′ answer′ x =
-    (r ≡ firstOr (imageRow image ∷ answerRow 100 answer ∷ []) (numberOf (x .outcome)))
-    × ((image′ ≡ lent 100 image answer image (keptOf (x .outcome) (imageOf (x .sign)) image))
-    × (answer′ ≡ lent 100 image answer answer (keptOf (x .outcome) (laid (bytesOf x) answer) answer)))
+-- refused by the guard: what is lent stays
+pub stays-went : (size : ℕ) (image answer : List ℕ) (n : ℕ) (bytes next : List ℕ) (r : ℕ) → r ≡ firstOr (guarded image (answerRow size answer ∷ [])) n
+    → (r ≡ 0 → ⊥)
+    → Went size image answer n bytes next r image answer
+stays-went size image answer n bytes next r e h =
+    (e, (kept-no _ image next (λ z. h (e ∙ z)), kept-no _ answer (laid bytes answer) (λ z. h (e ∙ z))))
 
-pub receive-answers : (image answer : List ℕ) (mid : ℕ) (bytes : List ℕ) {r : ℕ} {image′ answer′ : List ℕ} (x : Received) → x ≡ receiveOf (recordOf image) mid bytes
-    → Receives image answer r image′ answer′ x
-    → (r ≡ receiveNo image mid bytes answer) × ((image′ ≡ receiveImage image mid bytes answer) × (answer′ ≡ receiveAnswer image mid bytes answer))
-receive-answers image answer mid bytes {r} {image′} {answer′} x = subst (Receives image answer r image′ answer′)
+-- an image of another size
+pub unsized : (size : ℕ) (image answer : List ℕ) (n : ℕ) (bytes next : List ℕ) → (length image ≡ 102 → ⊥) → Went size image answer n bytes next 251 image answer
+unsized size image answer n bytes next h =
+    stays-went size image answer n bytes next 251
+    (sym (when-true _ 251 (when (not (soundOf (recordOf image))) 16 (firstOr (answerRow size answer ∷ []) n)) (ap not (ne-eqb (length image) 102 h))))
+    (λ z. omega arith)
 
--- the outcome of a reset of the sign in an image
-abbrev pub Resets : (image : List ℕ) → (r : ℕ) → (image′ : List ℕ) → Cleared → Type 0
-Resets image r image′ x =
-    (r ≡ firstOr (imageRow image ∷ []) (numberOf (x .outcome))) × (image′ ≡ sized image (keptOf (x .outcome) (imageOf (x .sign)) image))
+-- an answer that is too short
+pub too-short : (size : ℕ) (image answer : List ℕ) (n : ℕ) (bytes next : List ℕ) (s : Sign) (r : ℕ) → length image ≡ 102 → length answer < size
+    → s ≡ recordOf image
+    → r ≡ when (soundOf s) 252 16
+    → Went size image answer n bytes next r image answer
+too-short size image answer n bytes next s r fits few es er =
+    stays-went size image answer n bytes next r (why ∙ sym rows) (λ z. never (soundOf (recordOf image)) (sym why ∙ z))
+  where
+    why : r ≡ when (soundOf (recordOf image)) 252 16
+    why = er ∙ ap (λ (x : Sign). when (soundOf x) 252 16) es
 
-pub reset-answers : (image : List ℕ) {r : ℕ} {image′ : List ℕ} (x : Cleared) → x ≡ clearedOf (recordOf image) → Resets image r image′ x
-    → (r ≡ resetNo image) × (image′ ≡ resetImage image)
-reset-answers image {r} {image′} x = subst (Resets image r image′)
+    rows : firstOr (guarded image (answerRow size answer ∷ [])) n ≡ when (soundOf (recordOf image)) 252 16
+    rows =
+        when-false _ 251 (when (not (soundOf (recordOf image))) 16 (firstOr (answerRow size answer ∷ []) n)) (ap not (eq-eqb (length image) 102 fits))
+        ∙ ap (λ (t : Bool). when (not (soundOf (recordOf image))) 16 (when t 252 n)) (lt-ltb (length answer) size few)
+        ∙ turned (soundOf (recordOf image))
+      where
+        turned : (t : Bool) → _≡_ {A = ℕ} (when (not t) 16 252) (when t 252 16)
+        turned true = refl
+        turned false = refl
 
--- a refusal at once, where image and answer have their sizes
-pub no-answers : (size n : ℕ) (image answer told : List ℕ) → length image ≡ 186 → size ≤ length answer → answer ≡ told
-    → (n ≡ firstOr (imageRow image ∷ answerRow size answer ∷ []) n)
-    × ((image ≡ lent size image answer image image) × (answer ≡ lent size image answer answer told))
-no-answers size n image answer told big room same =
-    (number-on size n image answer big room, (lent-on size image answer image image big room, same ∙ lent-on size image answer answer told big room))
+    never : (t : Bool) → _≡_ {A = ℕ} (when t 252 16) 0 → ⊥
+    never true z = omega arith
+    never false z = omega arith
+
+module _ (size : ℕ) (image answer : List ℕ) (n : ℕ) (bytes next : List ℕ) (fits : length image ≡ 102) (room : size ≤ length answer)
+    (ill : soundOf (recordOf image) ≡ false → n ≡ 16) {r : ℕ} {answer′ : List ℕ} (told : r ≡ firstOr (answerRow size answer ∷ []) n)
+    (after : answer′ ≡ toldIn size bytes answer) where
+  long : ltb (length answer) size ≡ false
+  long = le-ltb (length answer) size room
+
+  own : firstOr (answerRow size answer ∷ []) n ≡ n
+  own = when-false (ltb (length answer) size) 252 n long
+
+  all : n ≡ firstOr (guarded image (answerRow size answer ∷ [])) n
+  all = guard-is image (answerRow size answer ∷ []) n fits ill own
+
+  written : answer′ ≡ laid bytes answer
+  written = after ∙ when-false (ltb (length answer) size) answer (laid bytes answer) long
+
+  -- a call that is refused tells nothing, and leaves the image
+  pub refused-went : ((n ≡ 0 → ⊥) → bytes ≡ []) → (r ≡ 0 → ⊥) → Went size image answer n bytes next r image answer′
+  unfolding laid
+  refused-went quiet h =
+      let no : n ≡ 0 → ⊥ = λ z. h (told ∙ own ∙ z) in
+      (told ∙ own ∙ all, (kept-no _ image next (λ z. no (all ∙ z)), written ∙ ap (λ (x : List ℕ). laid x answer) (quiet no) ∙ kept-no _ answer (laid bytes answer) (λ z. no (all ∙ z))))
+
+  -- a call that is not refused leaves the next image, and tells
+  pub told-went : (image′ : List ℕ) → r ≡ 0 → image′ ≡ next → Went size image answer n bytes next 0 image′ answer′
+  told-went image′ z e =
+      let none : n ≡ 0 = sym (told ∙ own) ∙ z in
+      let zero′ = sym all ∙ none in
+      (sym zero′, (e ∙ kept-yes _ image next zero′, written ∙ kept-yes _ answer (laid bytes answer) zero′))
+
+-- a call without an answer, in an image of the right size: what is lent stays where it is refused
+module _ (image : List ℕ) (n : ℕ) (next : List ℕ) (fits : length image ≡ 102) (ill : soundOf (recordOf image) ≡ false → n ≡ 16) where
+  pub no-answer : (n ≡ 0 → ⊥) → (n ≡ firstOr (guarded image []) n) × (image ≡ keptOf (firstOr (guarded image []) n) image next)
+  no-answer h = let all = guard-is image [] n fits ill refl in (all, kept-no _ image next (λ z. h (all ∙ z)))
+
+  pub went-on : (image′ : List ℕ) → n ≡ 0 → image′ ≡ next
+      → (0 ≡ firstOr (guarded image []) n) × (image′ ≡ keptOf (firstOr (guarded image []) n) image next)
+  went-on image′ z e = let none = sym (guard-is image [] n fits ill refl) ∙ z in (sym none, e ∙ kept-yes _ image next none)
+
+-- an unsound record is 16 to each call
+pub ill-receives : (image : List ℕ) (mid : ℕ) (b : List ℕ) → soundOf (recordOf image) ≡ false → numberOf (receiveOf (recordOf image) mid b .outcome) ≡ 16
+unfolding staysOf
+ill-receives image mid b e = ap (λ (x : Received). numberOf (x .outcome)) (unsound-receives (recordOf image) mid b e)
+
+pub ill-steps : (image : List ℕ) → soundOf (recordOf image) ≡ false → stepNumber (stepOf (recordOf image) .answer) ≡ 16
+ill-steps image e = ap (λ (x : Stepped). stepNumber (x .answer)) (unsound-steps (recordOf image) e)
+
+pub ill-resets : (image : List ℕ) → soundOf (recordOf image) ≡ false → numberOf (clearedOf (recordOf image) .outcome) ≡ 16
+unfolding clearedOf
+ill-resets image e = ap (λ (t : Bool). numberOf (choice t .outcome)) e
+  where
+    choice : Bool → Cleared
+    choice t = when t (record { sign = resetOf (recordOf image); outcome = Reset }) (record { sign = recordOf image; outcome = Refused 16 })
+
+-- a refusal tells nothing
+pub quiet-receive : (o : Outcome) (body : List ℕ) (len : ℕ) → (numberOf o ≡ 0 → ⊥) → receivedBytes o body len ≡ []
+quiet-receive Query body len h = absurd (h refl)
+quiet-receive Reset body len h = absurd (h refl)
+quiet-receive Repeat body len h = absurd (h refl)
+quiet-receive Stored body len h = absurd (h refl)
+quiet-receive (Released v) body len h = absurd (h refl)
+quiet-receive (Refused n) body len h = refl
+
+pub quiet-step : (x : Answer) → (stepNumber x ≡ 0 → ⊥) → wordsOf (stepWords x) ≡ []
+unfolding wordsOf
+quiet-step (Did x) h = absurd (h refl)
+quiet-step Idle h = absurd (h refl)
+quiet-step (NoStep n) h = refl

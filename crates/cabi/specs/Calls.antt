@@ -1,26 +1,31 @@
--- What each call answers, makes of the image, and lays into the lent answer. What an answer is told as stands in `words` and
--- `answers`, what is left where a call is refused in `held`.
+-- What each call answers, makes of the image, and writes into the lent answer. What an answer is told as stands in `words`.
 use Prim.Native.Nat.{ℕ}
+use mathlib.Core.Bool.{not}
 use mathlib.Core.List.{List, [], _∷_}
 use mathlib.Core.Path.{_≡_}
+use lib.Dec.{eqb}
+use lib.ListN.{length}
 use Rattle.basis.specs.Bytes.{laid}
-use Rattle.basis.specs.Rows.{Row, firstOf}
+use Rattle.basis.specs.Choice.{when}
+use Rattle.basis.specs.Rows.{Row, _if_, firstOf}
 use Rattle.packet.specs.Write.{answerOf, bufferOf}
 use Rattle.reader.specs.Read.{readOf, toldOf}
 use Rattle.reply.specs.Reply.{heardOf, numberOf as heardNo}
 use Rattle.reckon.specs.Forecast.{forecastOf}
+use Rattle.hear.specs.Hear.{numberOf}
+use Rattle.machine.specs.Step.{numberOf as stepNumber}
+use Rattle.sign.specs.Sound.{soundOf}
 use Rattle.sign.specs.Reset.{powerOn, clearedOf}
-use Rattle.sign.specs.Receive.{receiveOf, numberOf}
-use Rattle.sign.specs.Step.{stepOf, numberOf as stepNumber}
+use Rattle.sign.specs.Receive.{receiveOf}
+use Rattle.sign.specs.Step.{stepOf}
 use Rattle.sign.specs.Tell.{toldRows}
 use Rattle.sign.specs.declared.Sign.{Sign}
 use Rattle.image.specs.Layout.{imageOf, recordOf}
 use Rattle.words.specs.Words.{wordsOf, wroteOf}
 use Rattle.words.specs.Told.{answerRow, firstOr, toldIn, readWords, heardWords, foretoldWords, foretoldResult}
-use Rattle.answers.specs.Says.{receivedBytes, stepWords}
-use Rattle.held.specs.Laid.{imageRow, sized, lent, keptOf, ranOf}
+use Rattle.words.specs.Says.{receivedBytes, stepWords}
 
--- both outcomes of a call that lays these bytes into a lent buffer, or is refused by these rows
+-- both outcomes of a call that writes these bytes into a lent buffer, or is refused by these rows
 pub record Tells (rows : List Row) (bytes out : List ℕ) (result : ℕ) (after : List ℕ) : Type 0 where
   pub told : result ≡ wroteOf (answerOf (firstOf rows) bytes)
   pub left : after ≡ bufferOf (firstOf rows) bytes out
@@ -45,45 +50,50 @@ forecastResult body pace each answer = firstOr (answerRow 16 answer ∷ []) (for
 abbrev pub forecastAnswer : (body : List ℕ) → (pace each : ℕ) → (answer : List ℕ) → List ℕ
 forecastAnswer body pace each answer = toldIn 16 (wordsOf (foretoldWords (forecastOf body pace each))) answer
 
+-- 251: an image of another size
+abbrev pub imageRow : List ℕ → Row
+imageRow image = 251 if not (eqb (length image) 102)
+
+-- the guard of a call on a sign: 251, then 16 for a record that is not sound, before the call's own rows
+abbrev pub guarded : List ℕ → List Row → List Row
+guarded image rows = imageRow image ∷ 16 if not (soundOf (recordOf image)) ∷ rows
+
+-- what a call leaves of a lent list: as it was where the call is refused, 0 being yes
+abbrev pub keptOf : ℕ → (as-was next : List ℕ) → List ℕ
+keptOf number as-was next = when (eqb number 0) next as-was
+
 -- a receive
 abbrev pub receiveNo : (image : List ℕ) → ℕ → (bytes answer : List ℕ) → ℕ
-receiveNo image mid bytes answer =
-    firstOr (imageRow image ∷ answerRow 100 answer ∷ []) (numberOf (receiveOf (recordOf image) mid bytes .outcome))
+receiveNo image mid bytes answer = firstOr (guarded image (answerRow 100 answer ∷ [])) (numberOf (receiveOf (recordOf image) mid bytes .outcome))
 
 abbrev pub receiveImage : (image : List ℕ) → ℕ → (bytes answer : List ℕ) → List ℕ
-receiveImage image mid bytes answer =
-    let x = receiveOf (recordOf image) mid bytes in
-    lent 100 image answer image (keptOf (x .outcome) (imageOf (x .sign)) image)
+receiveImage image mid bytes answer = keptOf (receiveNo image mid bytes answer) image (imageOf (receiveOf (recordOf image) mid bytes .sign))
 
 abbrev pub receiveAnswer : (image : List ℕ) → ℕ → (bytes answer : List ℕ) → List ℕ
 receiveAnswer image mid bytes answer =
     let x = receiveOf (recordOf image) mid bytes in
-    lent 100 image answer answer (keptOf (x .outcome) (laid (receivedBytes (x .outcome) (x .body) (x .len)) answer) answer)
+    keptOf (receiveNo image mid bytes answer) answer (laid (receivedBytes (x .outcome) (x .body) (x .len)) answer)
 
 -- power-on and reset
 abbrev pub powerImage : List ℕ → List ℕ
-powerImage image = sized image (imageOf powerOn)
+powerImage image = keptOf (firstOf (imageRow image ∷ [])) image (imageOf powerOn)
 
 abbrev pub resetNo : List ℕ → ℕ
-resetNo image = firstOr (imageRow image ∷ []) (numberOf (clearedOf (recordOf image) .outcome))
+resetNo image = firstOr (guarded image []) (numberOf (clearedOf (recordOf image) .outcome))
 
 abbrev pub resetImage : List ℕ → List ℕ
-resetImage image =
-    let x = clearedOf (recordOf image) in
-    sized image (keptOf (x .outcome) (imageOf (x .sign)) image)
+resetImage image = keptOf (resetNo image) image (imageOf (clearedOf (recordOf image) .sign))
 
 -- a step
 abbrev pub stepNo : (image answer : List ℕ) → ℕ
-stepNo image answer = firstOr (imageRow image ∷ answerRow 28 answer ∷ []) (stepNumber (stepOf (recordOf image) .answer))
+stepNo image answer = firstOr (guarded image (answerRow 28 answer ∷ [])) (stepNumber (stepOf (recordOf image) .answer))
 
 abbrev pub stepImage : (image answer : List ℕ) → List ℕ
-stepImage image answer =
-    let x = stepOf (recordOf image) in
-    lent 28 image answer image (ranOf (x .answer) (imageOf (x .sign)) image)
+stepImage image answer = keptOf (stepNo image answer) image (imageOf (stepOf (recordOf image) .sign))
 
 abbrev pub stepAnswer : (image answer : List ℕ) → List ℕ
-stepAnswer image answer = lent 28 image answer answer (laid (wordsOf (stepWords (stepOf (recordOf image) .answer))) answer)
+stepAnswer image answer = keptOf (stepNo image answer) answer (laid (wordsOf (stepWords (stepOf (recordOf image) .answer))) answer)
 
 -- the reply to a query, and a copy of the running body: 251 comes before their own numbers
-abbrev pub imageRows : (bytes : Sign → List ℕ) → (image out : List ℕ) → List Row
-imageRows bytes image out = imageRow image ∷ toldRows (recordOf image) (bytes (recordOf image)) out
+abbrev pub tellRows : (bytes : Sign → List ℕ) → (image out : List ℕ) → List Row
+tellRows bytes image out = imageRow image ∷ toldRows (recordOf image) (bytes (recordOf image)) out

@@ -1,8 +1,8 @@
 // The calls for C: numbers and lent bytes, one function for each public call, as include/yurodekapi.h describes them.
-// No call has a `requires`: each answers for any numbers and any bytes. An image of another size (251) or an answer that is too short
-// (252) is refused before all else, and a refused call changes no lent byte. What an answer is told as stands in the crates `words` and
-// `answers`, what a call leaves in an image in `held`.
-//   loaded  the record in a lent image
+// No call has a `requires`: each answers for any numbers and any bytes. A call on a sign goes by the record in the image: 251 for an
+// image of another size, 16 for an unsound record, 252 for an answer that is too short, then the method of `Sign`. A refused call
+// changes no lent byte. What an answer is told as stands in the crate `words`.
+//   loaded  the record in a lent image, and back
 //   wire    packets and replies, read and written      01, "The packet"
 //   line    a body judged and forecast                 01, "The program", "One step, and what it costs"
 //   unit    the sign over its image                    01, "Joining", "One step, and what it costs"

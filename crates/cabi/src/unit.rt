@@ -1,17 +1,13 @@
 // The sign for C, over an image of its record. Answers to 01, "Joining", "One step, and what it costs", and to 16 and 34.
-use crate::loaded::lent;
+use crate::loaded::SIZE;
 use crate::loaded::load;
-use hear::framed;
-use hear::hear;
-use held::SIZE;
-use held::lay_cleared;
-use held::lay_heard;
-use held::lay_sign;
-use held::lay_stepped;
-use image::collection_of;
-use image::run_of;
+use crate::loaded::short;
+use crate::loaded::store;
 use repeater::shows;
 use sign::Sign;
+use words::tell_outcome;
+use words::tell_received;
+use words::tell_stepped;
 use words::tell_written;
 ghost use mathlib.Core.Path.{_≡_};
 ghost use mathlib.Core.Bool.{not};
@@ -20,11 +16,9 @@ ghost use lib.Dec.{eqb};
 ghost use Rattle.basis.specs.Choice.{when};
 ghost use Rattle.basis.specs.Rows.{firstOf};
 ghost use Rattle.image.specs.Layout.{recordOf};
-ghost use Rattle.machine.specs.Sound.{bodyOf};
 ghost use Rattle.repeater.specs.Repeat.{withinOf};
-ghost use Rattle.sign.specs.Tell.{saysOf};
-ghost use Rattle.held.specs.Laid.{imageRow};
-ghost use Rattle.cabi.specs.Calls.{Tells, powerImage, resetNo, resetImage, receiveNo, receiveImage, receiveAnswer, stepNo, stepImage, stepAnswer, imageRows};
+ghost use Rattle.sign.specs.Tell.{saysOf, runningBody};
+ghost use Rattle.cabi.specs.Calls.{Tells, imageRow, powerImage, resetNo, resetImage, receiveNo, receiveImage, receiveAnswer, stepNo, stepImage, stepAnswer, tellRows};
 
 // The image of a sign that was just switched on.
 #[no_mangle]
@@ -32,11 +26,15 @@ pub extern "C" fn yd_power_on(image: &mut [u8]) -> u32
     ensures result { λ r. ⌜ r ≡ firstOf (imageRow (now (image .entry)) ∷ []) ⌝ }
     ensures kept { λ _. ⌜ now (image .exit) ≡ powerImage (now (image .entry)) ⌝ }
 {
+    if image.len() != SIZE {
+        return 251;
+    }
     let sign = Sign::power_on();
-    lay_sign(sign, image)
+    store(sign, image);
+    0
 }
 
-// The image behind a reset.
+// The image after a reset.
 #[no_mangle]
 pub extern "C" fn yd_reset(image: &mut [u8]) -> u32
     ensures result { λ r. ⌜ r ≡ resetNo (now (image .entry)) ⌝ }
@@ -47,7 +45,14 @@ pub extern "C" fn yd_reset(image: &mut [u8]) -> u32
     }
     let sign = load(image);
     let cleared = sign.reset();
-    lay_cleared(cleared, image)
+    let outcome = cleared.outcome;
+    let told = tell_outcome(outcome);
+    if told != 0 {
+        return told;
+    }
+    let next = cleared.sign;
+    store(next, image);
+    0
 }
 
 // What bytes off the line do to the sign.
@@ -60,17 +65,20 @@ pub extern "C" fn yd_receive(image: &mut [u8], mid: u8, bytes: &[u8], answer: &m
     if image.len() != SIZE {
         return 251;
     }
+    let sign = load(image);
     if answer.len() < 100 {
-        return 252;
+        return short(sign);
     }
-    let held = lent(image);
-    let run = run_of(held);
-    let collection = collection_of(held);
-    if !run.sound() {
-        return 16;
+    let received = sign.receive(mid, bytes);
+    let outcome = received.outcome;
+    let body = received.body;
+    let told = tell_received(outcome, &body, received.len, answer);
+    if told != 0 {
+        return told;
     }
-    let heard = hear(held[0], collection, run.len, mid, bytes);
-    lay_heard(heard, run, image, answer)
+    let next = received.sign;
+    store(next, image);
+    0
 }
 
 // One step.
@@ -83,23 +91,25 @@ pub extern "C" fn yd_step(image: &mut [u8], answer: &mut [u8]) -> u32
     if image.len() != SIZE {
         return 251;
     }
+    let sign = load(image);
     if answer.len() < 28 {
-        return 252;
+        return short(sign);
     }
-    let held = lent(image);
-    let run = run_of(held);
-    let collection = collection_of(held);
-    if !framed(held[0], collection, run.len) {
-        return 16;
+    let stepped = sign.step();
+    let said = stepped.answer;
+    let told = tell_stepped(said, answer);
+    if told != 0 {
+        return told;
     }
-    let went = run.step();
-    lay_stepped(went, image, answer)
+    let next = stepped.sign;
+    store(next, image);
+    0
 }
 
-// Lays the reply to a query; AUX reads S if `aux` isn't 0.
+// Writes the reply to a query; AUX reads S if `aux` isn't 0.
 #[no_mangle]
 pub extern "C" fn yd_reply(image: &[u8], mid: u8, aux: u8, out: &mut [u8]) -> u32
-    ensures { λ r. ⌜ Tells (imageRows (λ s. saysOf s mid (not (eqb aux 0))) (now (image .entry)) (now (out .entry))) (saysOf (recordOf (now (image .entry))) mid (not (eqb aux 0))) (now (out .entry)) r (now (out .exit)) ⌝ }
+    ensures { λ r. ⌜ Tells (tellRows (λ s. saysOf s mid (not (eqb aux 0))) (now (image .entry)) (now (out .entry))) (saysOf (recordOf (now (image .entry))) mid (not (eqb aux 0))) (now (out .entry)) r (now (out .exit)) ⌝ }
 {
     if image.len() != SIZE {
         return 251;
@@ -112,7 +122,7 @@ pub extern "C" fn yd_reply(image: &[u8], mid: u8, aux: u8, out: &mut [u8]) -> u3
 // Copies the running body, none when Ready.
 #[no_mangle]
 pub extern "C" fn yd_copy_body(image: &[u8], out: &mut [u8]) -> u32
-    ensures { λ r. ⌜ Tells (imageRows (λ s. bodyOf (s .run)) (now (image .entry)) (now (out .entry))) (bodyOf ((recordOf (now (image .entry))) .run)) (now (out .entry)) r (now (out .exit)) ⌝ }
+    ensures { λ r. ⌜ Tells (tellRows runningBody (now (image .entry)) (now (out .entry))) (runningBody (recordOf (now (image .entry)))) (now (out .entry)) r (now (out .exit)) ⌝ }
 {
     if image.len() != SIZE {
         return 251;

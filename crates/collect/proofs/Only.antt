@@ -8,7 +8,7 @@ use lib.ListN.{length, take, drop, length-drop, take-append-drop}
 use lib.Seq.{take-add, length-take-le}
 use Rattle.room.specs.Room.{zerosOf}
 use Rattle.collect.specs.Slots.{slotsOf, packetsOf}
-use Rattle.collect.specs.declared.Collection.{Collection}
+use Rattle.collect.specs.Slots.{Collection}
 use Rattle.collect.proofs.Turns.{rule-most}
 use Rattle.collect.proofs.Joined.{first, all-zeros, blank}
 

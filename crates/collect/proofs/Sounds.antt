@@ -11,7 +11,7 @@ use Rattle.basis.specs.Choice.{when, _and_}
 use Rattle.basis.proofs.Choices.{and-parts, and-true, when-false}
 use Rattle.collect.specs.Slots.{ruleOf, heldOf, slotsOf, begunOf, noneOf}
 use Rattle.collect.specs.Sound.{idOf, someOf, soundOf}
-use Rattle.collect.specs.declared.Collection.{Collection}
+use Rattle.collect.specs.Slots.{Collection}
 use Rattle.collect.proofs.Turns.{rule-most}
 use Rattle.collect.proofs.Joined.{first}
 

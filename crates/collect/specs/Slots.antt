@@ -3,12 +3,25 @@
 use Prim.Native.Nat.{ℕ, _+_, _-_, _*_}
 use mathlib.Core.List.{List, [], _∷_, _++_}
 use mathlib.Core.Bool.{Bool, true, false}
-use lib.Dec.{eqb, ltb, leb}
+use lib.Dec.{eqb, leb}
 use lib.ListN.{length, take, drop, set, replicate}
 use Rattle.basis.specs.Bytes.{laid}
 use Rattle.basis.specs.Choice.{when, _and_, _or_}
 use Rattle.room.specs.Room.{zerosOf}
-use Rattle.collect.specs.declared.Collection.{Collection}
+use Rattle.collect.specs.declared.Slots.{Slots}
+
+-- what is collected: the slots with the room that their data stand in
+pub record Collection : Type 0 where
+  pub id : ℕ
+  pub total : ℕ
+  pub lens : List ℕ
+  pub room : List ℕ
+
+abbrev pub collectionOf : Slots → List ℕ → Collection
+collectionOf s room = record { id = s .id; total = s .total; lens = s .lens; room = room }
+
+abbrev pub slotsIn : Collection → Slots
+slotsIn c = record { id = c .id; total = c .total; lens = c .lens }
 
 -- what may be held at a position: nothing from N on; 1 to 14 bytes at the last; 14 before it; and nothing anywhere (0)
 abbrev pub ruleOf : ℕ → ℕ → ℕ → Bool
@@ -49,10 +62,6 @@ begunOf id total = record { id = id; total = total; lens = replicate 6 0; room =
 -- none collected
 abbrev pub noneOf : Collection
 noneOf = begunOf 0 0
-
--- there is such a position, and the data have room in its slot
-abbrev pub fitsOf : ℕ → List ℕ → Bool
-fitsOf position part = ltb position 6 and leb (length part) 14
 
 -- a packet's data stored at its position
 unfoldable pub storedOf : Collection → ℕ → List ℕ → Collection

@@ -5,8 +5,9 @@ use Prim.Native.Nat.{ℕ}
 use mathlib.Core.Bool.{Bool, not}
 use lib.Dec.{eqb, ltb, leb}
 use Rattle.basis.specs.Choice.{when, _and_}
-use Rattle.collect.specs.Slots.{heldOf, slotsOf}
-use Rattle.collect.specs.declared.Collection.{Collection}
+use Rattle.room.specs.Room.{zerosOf}
+use Rattle.collect.specs.Slots.{Collection, heldOf, slotsOf}
+use Rattle.collect.specs.declared.Slots.{Slots}
 
 -- the ID is one of a packet with data, and isn't the last completed
 abbrev pub idOf : ℕ → Collection → Bool
@@ -21,3 +22,7 @@ unfoldable pub soundOf : ℕ → Collection → Bool
 soundOf last c =
     when (eqb (c .total) 0) (eqb (c .id) 0) (idOf last c and leb (c .total) 6 and someOf c)
     and slotsOf (c .total) 0 (c .lens) (c .room)
+
+-- nothing is collected: no ID, no total, no lengths
+abbrev pub nothingOf : Slots → Bool
+nothingOf s = eqb (s .id) 0 and eqb (s .total) 0 and zerosOf (s .lens)

@@ -1,9 +1,8 @@
-// A packet joins a collection. Answers to 01, "Joining": "this packet begins", "Position already held: equal data ..", "Otherwise
-// Stored".
-use crate::Collection;
+// Data that are equal, and slots that hold nothing yet. Answers to 01, "Joining": "this packet begins", "Position already held: equal
+// data ..".
+use crate::Slots;
 ghost use mathlib.Core.Path.{_≡_};
-ghost use Rattle.basis.specs.Choice.{when};
-ghost use Rattle.collect.specs.Slots.{sameOf, begunOf, fitsOf, storedOf};
+ghost use Rattle.collect.specs.Slots.{sameOf, begunOf, slotsIn};
 
 // Whether two lists of bytes are equal, in length and byte by byte.
 pub fn same(one: &[u8], other: &[u8]) -> bool
@@ -22,36 +21,13 @@ pub fn same(one: &[u8], other: &[u8]) -> bool
     true
 }
 
-// A collection of this ID and total that holds nothing yet.
-pub fn begun(id: u8, total: u8) -> Collection
-    ensures { λ r. ⌜ r ≡ begunOf id total ⌝ }
+// Slots of this ID and total that hold nothing yet.
+pub fn begun(id: u8, total: u8) -> Slots
+    ensures { λ r. ⌜ r ≡ slotsIn (begunOf id total) ⌝ }
 {
-    Collection {
+    Slots {
         id,
         total,
         lens: [0; 6],
-        room: [0; 84],
-    }
-}
-
-impl Collection {
-    // The collection with this data stored at a position; where there is no such slot it stays.
-    pub fn stored(self, position: usize, part: &[u8]) -> Collection
-        ensures { λ r. ⌜ r ≡ when (fitsOf position (now (part .entry))) (storedOf self position (now (part .entry))) self ⌝ }
-    {
-        if 6 <= position {
-            return self;
-        }
-        if 14 < part.len() {
-            return self;
-        }
-        let mut next = self;
-        let mut room = self.room;
-        let from = 14 * position;
-        let to = from + 14;
-        bytes::copy(part, &mut room[from..to]);
-        next.lens[position] = part.len() as u8;
-        next.room = room;
-        next
     }
 }

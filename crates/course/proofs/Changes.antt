@@ -1,6 +1,5 @@
 -- Why two readings of a loop suffice: a block's effect on the settings is one change, and a change made twice is made once.
 use Prim.Native.Nat.{ℕ, zero, suc, _≤_}
-use mathlib.Core.Bool.{Bool}
 use mathlib.Core.Path.{_≡_, refl, sym, ap, _∙_}
 use native.Mathlib.Omega.{arith}
 use Rattle.perform.specs.Settings.{Change, stays, takes, changed, Changes, none, applied, changesOf}
@@ -34,7 +33,7 @@ joined c d =
     }
 
 -- settings are equal where each of the five is
-same : (p p′ s s′ : ℕ) (k k′ : Bool) (d d′ b b′ : ℕ) → p ≡ p′ → s ≡ s′ → k ≡ k′ → d ≡ d′ → b ≡ b′
+same : (p p′ s s′ k k′ d d′ b b′ : ℕ) → p ≡ p′ → s ≡ s′ → k ≡ k′ → d ≡ d′ → b ≡ b′
     → _≡_ {A = Settings} (record { pace = p; scans = s; sink = k; dim = d; bright = b })
     (record { pace = p′; scans = s′; sink = k′; dim = d′; bright = b′ })
 same p p′ s s′ k k′ d d′ b b′ ep es ek ed eb = cc

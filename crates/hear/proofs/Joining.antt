@@ -9,12 +9,10 @@ use lib.ListN.{length, getD, take, drop, replicate, getD-replicate}
 use borrow.Author.Tests.{eq-eqb, ne-eqb}
 use Rattle.basis.specs.Choice.{when}
 use Rattle.basis.proofs.Choices.{when-false}
-use Rattle.collect.specs.Slots.{sameOf, slotsOf, begunOf, storedOf}
+use Rattle.collect.specs.Slots.{Collection, sameOf, slotsOf, begunOf, storedOf}
 use Rattle.collect.specs.Sound.{soundOf}
-use Rattle.collect.specs.declared.Collection.{Collection}
 use Rattle.collect.proofs.Sounds.{begun-slots, sound-slots, slots-most}
-use Rattle.hear.specs.Join.{slotOf, goesBy, beginsOf, takingOf, joinBy, stayOf, countOf, Right, Open}
-use Rattle.hear.specs.declared.Heard.{Heard}
+use Rattle.hear.specs.Join.{slotOf, goesBy, beginsOf, takingOf, joinBy, Left, stayOf, countOf, Right, Open}
 use Rattle.hear.specs.declared.Outcome.{Outcome}
 use Rattle.hear.specs.declared.Outcome.the-variants.{Repeat, Refused}
 
@@ -45,22 +43,22 @@ begun-goes stays counted id total position part r =
     search (eq-eqb total total refl, eq-eqb (getD (replicate {A = ℕ} 6 0) position 0) 0 free)
 
 -- neither a repeat nor Busy: a packet is joined by what it goes into
-pub join-into : (last : ℕ) (d : Collection) (len id total position : ℕ) (part : List ℕ) (c : Collection) (r : Heard) → Right total position (length part)
+pub join-into : (last : ℕ) (d : Collection) (len id total position : ℕ) (part : List ℕ) (c : Collection) (l : Left) → Right total position (length part)
     → (id ≡ last → ⊥)
     → len ≡ 0
     → c ≡ takingOf d id total
-    → r ≡ goesBy (stayOf c) countOf c total position part
-    → r ≡ joinBy (stayOf d) countOf last d len id total position part
-join-into last d len id total position part c r right other ready ec er =
-    er
-    ∙ ap (λ (x : Collection). goesBy (stayOf x) countOf x total position part) ec
+    → l ≡ goesBy (stayOf last c) (countOf last) c total position part
+    → l ≡ joinBy (stayOf last d) (countOf last) last d len id total position part
+join-into last d len id total position part c l right other ready ec el =
+    el
+    ∙ ap (λ (x : Collection). goesBy (stayOf last x) (countOf last) x total position part) ec
     ∙ go (beginsOf d id)
-    ∙ sym (when-false (eqb id last) (stayOf d Repeat) _ (ne-eqb id last other) ∙ when-false (not (eqb len 0)) (stayOf d (Refused 12)) _ (ap not (eq-eqb len 0 ready)))
+    ∙ sym (when-false (eqb id last) (stayOf last d Repeat) _ (ne-eqb id last other) ∙ when-false (not (eqb len 0)) (stayOf last d (Refused 12)) _ (ap not (eq-eqb len 0 ready)))
   where
     go : (t : Bool)
-        → goesBy (stayOf (when t (begunOf id total) d)) countOf (when t (begunOf id total) d) total position part
-        ≡ when t (countOf (storedOf (begunOf id total) position part)) (goesBy (stayOf d) countOf d total position part)
-    go true = begun-goes (stayOf (begunOf id total)) countOf id total position part right
+        → goesBy (stayOf last (when t (begunOf id total) d)) (countOf last) (when t (begunOf id total) d) total position part
+        ≡ when t (countOf last (storedOf (begunOf id total) position part)) (goesBy (stayOf last d) (countOf last) d total position part)
+    go true = begun-goes (stayOf last (begunOf id total)) (countOf last) id total position part right
     go false = refl
 
 -- what is held at a position has at most 14 bytes
@@ -82,11 +80,8 @@ module _ {A : Type 0} (stays : Outcome → A) (counted : Collection → A) (c : 
       (when (sameOf (slotOf c position) part) (stays Repeat) (stays (Refused 13)))
       (ne-eqb (getD (c .lens) position 0) 0 held)
 
-  cut : (n : ℕ) → take (14 * position + n - 14 * position) (drop (14 * position) (c .room)) ≡ take n (drop (14 * position) (c .room))
-  cut n = let e : 14 * position + n - 14 * position ≡ n = omega arith in ap (λ (k : ℕ). take k (drop (14 * position) (c .room))) e
-
-  pub goes-by : (t u : Bool) (r : A) → t ≡ sameOf (take (14 * position + getD (c .lens) position 0 - 14 * position) (drop (14 * position) (c .room))) part
-      → t ≡ u → r ≡ when u (stays Repeat) (stays (Refused 13)) → r ≡ goesBy stays counted c total position part
-  goes-by t u r e f q =
-      let w : u ≡ sameOf (slotOf c position) part = sym f ∙ e ∙ ap (λ (x : List ℕ). sameOf x part) (cut (getD (c .lens) position 0)) in
+  pub goes-by : (t u : Bool) (l : A) → t ≡ sameOf (slotOf c position) part → t ≡ u → l ≡ when u (stays Repeat) (stays (Refused 13))
+      → l ≡ goesBy stays counted c total position part
+  goes-by t u l e f q =
+      let w : u ≡ sameOf (slotOf c position) part = sym f ∙ e in
       q ∙ ap (λ (x : Bool). when x (stays Repeat) (stays (Refused 13))) w ∙ sym held-goes

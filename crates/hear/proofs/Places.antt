@@ -1,6 +1,6 @@
 -- A packet placed: the collection has room for it, what is then stored stays right, and what is whole is released.
 use Prim.Native.Nat.{ℕ, _+_, _-_, _*_, _≤_, _<_}
-use mathlib.Core.List.{List}
+use mathlib.Core.List.{List, _++_}
 use mathlib.Core.Bool.{true}
 use mathlib.Core.Path.{_≡_, sym, ap, _∙_, subst}
 use mathlib.Core.Logic.{dite}
@@ -8,20 +8,19 @@ use native.Mathlib.Decide.{decLe}
 use native.Mathlib.Omega.{arith}
 use lib.Dec.{eqb, leb}
 use lib.ListN.{length, getD, take, set, replicate, getD-replicate}
-use borrow.Author.Tests.{lt-ltb, le-leb, lt-leb}
+use borrow.Author.Tests.{le-leb, lt-leb}
 use Rattle.basis.specs.Bytes.{laid}
 use Rattle.basis.specs.Choice.{when, _or_}
-use Rattle.basis.proofs.Choices.{when-true, when-false, and-true}
+use Rattle.basis.proofs.Choices.{when-true, when-false}
 use Rattle.basis.proofs.Laid.{take-laid}
 use Rattle.judge.specs.Verdict.{judgeOf}
 use Rattle.judge.specs.declared.Verdict.{Verdict}
-use Rattle.collect.specs.Slots.{ruleOf, heldOf, slotsOf, joinedOf, begunOf, fitsOf, storedOf}
-use Rattle.collect.specs.declared.Collection.{Collection}
+use Rattle.room.specs.Room.{roomOf}
+use Rattle.collect.specs.Slots.{Collection, ruleOf, heldOf, slotsOf, joinedOf, begunOf, storedOf}
 use Rattle.collect.proofs.Joined.{held-most, full-room}
 use Rattle.collect.proofs.Kept.{slots-kept}
 use Rattle.collect.proofs.Sounds.{begun-slots, slots-most}
-use Rattle.hear.specs.Join.{stayOf, wholeOf, countOf, Right, Open, Whole}
-use Rattle.hear.specs.declared.Heard.{Heard}
+use Rattle.hear.specs.Join.{Left, stayOf, bodyIn, wholeOf, countOf, Right, Open, Whole}
 use Rattle.hear.specs.declared.Outcome.the-variants.{Stored, Released}
 
 -- a collection that holds nothing has every position free
@@ -48,14 +47,7 @@ right-rule total position len r =
 
 module _ (c : Collection) (position : ℕ) (part : List ℕ) (lens : length (c .lens) ≡ 6) (room : length (c .room) ≡ 84)
     (o : Open c position (length part)) where
-  -- the code stores it
-  pub fits-open : (n : Collection) → n ≡ when (fitsOf position part) (storedOf c position part) c → n ≡ storedOf c position part
-  fits-open n e =
-      e
-      ∙ when-true (fitsOf position part) (storedOf c position part) c
-      (and-true _ _ (lt-ltb position 6 (omega (arith, o .right .below, o .right .most))) (le-leb (length part) 14 (o .right .few)))
-
-  -- and the slots stay right
+  -- the slots stay right
   pub stored-slots : slotsOf (c .total) 0 (storedOf c position part .lens) (storedOf c position part .room) ≡ true
   unfolding storedOf
   stored-slots =
@@ -69,16 +61,27 @@ module _ (c : Collection) (position : ℕ) (part : List ℕ) (lens : length (c .
       subst (λ (x : Collection). Whole x) (sym e)
       (record { least = o .right .least; most = o .right .most; slots = stored-slots; full = held })
 
+-- lengths and room with the packet in them
+pub stored-is : (c : Collection) (position : ℕ) (part x : List ℕ) → x ≡ laid (take (14 * position) (c .room) ++ part) (c .room)
+    → _≡_ {A = Collection} (record { id = c .id; total = c .total; lens = set (c .lens) position (length part); room = x }) (storedOf c position part)
+unfolding storedOf
+stored-is c position part x e =
+    ap (λ (y : List ℕ). record { id = c .id; total = c .total; lens = set (c .lens) position (length part); room = y }) e
+
 -- not all are held: Stored; all are held: Released
-pub counted-less : (n c : Collection) (r : Heard) → n ≡ c → heldOf (n .lens) < n .total → r ≡ stayOf n Stored → r ≡ countOf c
-counted-less n c r e h q =
-    q ∙ sym (when-false (leb (n .total) (heldOf (n .lens))) (wholeOf n) (stayOf n Stored) (lt-leb (n .total) (heldOf (n .lens)) h)) ∙ ap countOf e
+pub counted-less : (last : ℕ) (n c : Collection) (l : Left) → n ≡ c → heldOf (n .lens) < n .total → l ≡ stayOf last n Stored → l ≡ countOf last c
+counted-less last n c l e h q =
+    q
+    ∙ sym (when-false (leb (n .total) (heldOf (n .lens))) (wholeOf n) (stayOf last n Stored) (lt-leb (n .total) (heldOf (n .lens)) h))
+    ∙ ap (countOf last) e
 
-pub counted-full : (n c : Collection) (r : Heard) → n ≡ c → n .total ≤ heldOf (n .lens) → r ≡ wholeOf n → r ≡ countOf c
-counted-full n c r e h q =
-    q ∙ sym (when-true (leb (n .total) (heldOf (n .lens))) (wholeOf n) (stayOf n Stored) (le-leb (n .total) (heldOf (n .lens)) h)) ∙ ap countOf e
+pub counted-full : (last : ℕ) (n c : Collection) (l : Left) → n ≡ c → n .total ≤ heldOf (n .lens) → l ≡ wholeOf n → l ≡ countOf last c
+counted-full last n c l e h q =
+    q
+    ∙ sym (when-true (leb (n .total) (heldOf (n .lens))) (wholeOf n) (stayOf last n Stored) (le-leb (n .total) (heldOf (n .lens)) h))
+    ∙ ap (countOf last) e
 
--- of a whole collection the room is the body with zeros behind
+-- of a whole collection the room is the body with zeros after it
 module _ (c : Collection) (lens : length (c .lens) ≡ 6) (room : length (c .room) ≡ 84) (w : Whole c) where
   pub whole-len : 14 * (c .total - 1) + getD (c .lens) (c .total - 1) 0 ≤ 84
   whole-len = omega (arith, slots-most (c .total) 0 (c .lens) (c .room) (c .total - 1) (w .slots), w .most, w .least)
@@ -89,18 +92,25 @@ module _ (c : Collection) (lens : length (c .lens) ≡ 6) (room : length (c .roo
   pub whole-size : length (joinedOf (c .lens) (c .room)) ≡ 14 * (c .total - 1) + getD (c .lens) (c .total - 1) 0
   whole-size = full-room (c .total) 0 (c .lens) (c .room) (omega (arith, w .least)) (omega (arith, w .most)) (w .slots) all-held (omega arith) .size
 
-  pub whole-room : laid (joinedOf (c .lens) (c .room)) (replicate 84 0) ≡ c .room
+  pub whole-room : roomOf (joinedOf (c .lens) (c .room)) ≡ c .room
+  unfolding roomOf
   whole-room =
       ap (λ (n : ℕ). laid (joinedOf (c .lens) (c .room)) (replicate n 0)) (sym room)
       ∙ full-room (c .total) 0 (c .lens) (c .room) (omega (arith, w .least)) (omega (arith, w .most)) (w .slots) all-held (omega arith) .whole
 
   pub whole-body : take (14 * (c .total - 1) + getD (c .lens) (c .total - 1) 0) (c .room) ≡ joinedOf (c .lens) (c .room)
+  unfolding roomOf
   whole-body =
       ap (λ (n : ℕ). take n (c .room)) (sym whole-size)
       ∙ ap (take (length (joinedOf (c .lens) (c .room)))) (sym whole-room)
       ∙ take-laid (joinedOf (c .lens) (c .room)) (replicate 84 0)
 
--- what the code hears of it
-pub whole-heard : (c : Collection) (v : Verdict) (len : ℕ) → v ≡ judgeOf (joinedOf (c .lens) (c .room)) → len ≡ length (joinedOf (c .lens) (c .room))
-    → _≡_ {A = Heard} (record { outcome = Released v; collection = c; len = len }) (wholeOf c)
-whole-heard c v len ev el = rw (ev, el)
+-- what the code leaves of it
+pub whole-left : (c : Collection) (v : Verdict) (len : ℕ) → roomOf (joinedOf (c .lens) (c .room)) ≡ c .room
+    → v ≡ judgeOf (joinedOf (c .lens) (c .room))
+    → len ≡ length (joinedOf (c .lens) (c .room))
+    → _≡_ {A = Left} (record { outcome = Released v; last = c .id; collection = record { id = 0; total = 0; lens = replicate 6 0; room = c .room }; len = len }) (wholeOf c)
+whole-left c v len er ev el =
+    ap (λ (x : List ℕ). record { outcome = Released v; last = c .id; collection = record { id = 0; total = 0; lens = replicate 6 0; room = x }; len = len }) (sym er)
+    ∙ ap (λ (x : Verdict). record { outcome = Released x; last = c .id; collection = bodyIn (joinedOf (c .lens) (c .room)); len = len }) ev
+    ∙ ap (λ (n : ℕ). record { outcome = Released (judgeOf (joinedOf (c .lens) (c .room))); last = c .id; collection = bodyIn (joinedOf (c .lens) (c .room)); len = n }) el

@@ -1,12 +1,12 @@
--- Which last ID and collection are sound beside the length of a running body, 0 when Ready: all of a record but its run.
--- 01: "last ID 0 to 3Fh or 41h; .. Busy collects nothing".
+-- Which last ID, slots and room are sound beside the length of a running body, 0 when Ready: all of a record but its run.
+-- 01: "last ID 0 to 3Fh or 41h; .. Busy collects nothing". The room of a Busy sign holds the body, and is its run's to judge.
 use Prim.Native.Nat.{ℕ}
 use mathlib.Core.Bool.{Bool}
 use lib.Dec.{eqb}
-use Rattle.basis.specs.Choice.{_and_, _or_}
+use Rattle.basis.specs.Choice.{when, _and_}
 use Rattle.reply.specs.Reply.{isLast}
-use Rattle.collect.specs.Sound.{soundOf as collectionSound}
-use Rattle.collect.specs.declared.Collection.{Collection}
+use Rattle.collect.specs.Slots.{Collection, slotsIn}
+use Rattle.collect.specs.Sound.{nothingOf, soundOf as collectionSound}
 
 abbrev pub framedBy : ℕ → Collection → ℕ → Bool
-framedBy last c len = isLast last and collectionSound last c and (eqb len 0 or eqb (c .total) 0)
+framedBy last c len = isLast last and when (eqb len 0) (collectionSound last c) (nothingOf (slotsIn c))

@@ -6,12 +6,11 @@ use Rattle.basis.specs.Choice.{when}
 use Rattle.reader.specs.Read.{readOf}
 use Rattle.reader.specs.declared.read.Reading.{Reading}
 use Rattle.reader.specs.declared.read.Reading.the-variants.{Query as QueryRead, Reset as ResetRead, Normal, Refused as Unread}
-use Rattle.collect.specs.declared.Collection.{Collection}
+use Rattle.collect.specs.Slots.{Collection}
 use Rattle.hear.specs.Frame.{framedBy}
-use Rattle.hear.specs.Join.{joinBy, stayOf, countOf}
-use Rattle.hear.specs.declared.Heard.{Heard}
+use Rattle.hear.specs.Join.{Left, joinBy, stayOf, resetLeft, countOf}
 use Rattle.hear.specs.declared.Outcome.{Outcome}
-use Rattle.hear.specs.declared.Outcome.the-variants.{Query, Reset, Refused}
+use Rattle.hear.specs.declared.Outcome.the-variants.{Query, Reset, Repeat, Stored, Released, Refused}
 
 -- what was read decides; the data of a normal packet stand at bytes 5 to 5 + len
 abbrev pub readBy : {A : Type 0} → (stays : Outcome → A) → (reset : A) → (joined : ℕ → ℕ → ℕ → List ℕ → A) → List ℕ → Reading → A
@@ -20,9 +19,18 @@ readBy stays reset joined b ResetRead = reset
 readBy stays reset joined b (Normal id total position len) = joined id total position (take len (drop 5 b))
 readBy stays reset joined b (Unread n) = stays (Refused n)
 
--- what was read, to a sound collection
-abbrev pub heardOf : ℕ → Collection → ℕ → List ℕ → Reading → Heard
-heardOf last c len b read = readBy (stayOf c) (stayOf c Reset) (joinBy (stayOf c) countOf last c len) b read
+-- what was read, where the frame is sound
+abbrev pub heardOf : ℕ → Collection → ℕ → List ℕ → Reading → Left
+heardOf last c len b read = readBy (stayOf last c) resetLeft (joinBy (stayOf last c) (countOf last) last c len) b read
 
-unfoldable pub hearOf : ℕ → Collection → ℕ → ℕ → List ℕ → Heard
-hearOf last c len mid b = when (framedBy last c len) (heardOf last c len b (readOf mid b)) (stayOf c (Refused 16))
+unfoldable pub hearOf : ℕ → Collection → ℕ → ℕ → List ℕ → Left
+hearOf last c len mid b = when (framedBy last c len) (heardOf last c len b (readOf mid b)) (stayOf last c (Refused 16))
+
+-- an outcome in 01's words: the number for no, 0 for yes
+abbrev pub numberOf : Outcome → ℕ
+numberOf Query = 0
+numberOf Reset = 0
+numberOf Repeat = 0
+numberOf Stored = 0
+numberOf (Released v) = 0
+numberOf (Refused n) = n

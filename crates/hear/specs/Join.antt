@@ -6,15 +6,14 @@ use mathlib.Core.List.{List}
 use mathlib.Core.Bool.{Bool, true, not}
 use mathlib.Core.Path.{_≡_}
 use lib.Dec.{eqb, leb}
-use lib.ListN.{length, getD, take, drop}
+use lib.ListN.{length, getD, take, drop, replicate}
 use Rattle.basis.specs.Choice.{when, _or_}
 use Rattle.judge.specs.Verdict.{judgeOf}
-use Rattle.judge.specs.declared.Verdict.{Verdict}
-use Rattle.collect.specs.Slots.{heldOf, slotsOf, joinedOf, sameOf, begunOf, storedOf}
-use Rattle.collect.specs.declared.Collection.{Collection}
+use Rattle.room.specs.Room.{roomOf}
+use Rattle.collect.specs.Slots.{Collection, collectionOf, heldOf, slotsOf, joinedOf, sameOf, begunOf, noneOf, storedOf}
 use Rattle.hear.specs.declared.Heard.{Heard}
 use Rattle.hear.specs.declared.Outcome.{Outcome}
-use Rattle.hear.specs.declared.Outcome.the-variants.{Repeat, Stored, Released, Refused}
+use Rattle.hear.specs.declared.Outcome.the-variants.{Reset, Repeat, Stored, Released, Refused}
 
 -- Released if all N are held, otherwise Stored
 abbrev pub countBy : {A : Type 0} → (stored released : Collection → A) → Collection → A
@@ -46,17 +45,38 @@ joinBy stays counted last c len id total position part =
     (when (not (eqb len 0)) (stays (Refused 12))
     (when (beginsOf c id) (counted (storedOf (begunOf id total) position part)) (goesBy stays counted c total position part)))
 
--- heard: the collection stays
-abbrev pub stayOf : Collection → Outcome → Heard
-stayOf c outcome = record { outcome = outcome; collection = c; len = 0 }
+-- what bytes leave: the outcome, the last completed ID, what is collected with its room, and the length of a body released
+pub record Left : Type 0 where
+  pub outcome : Outcome
+  pub last : ℕ
+  pub collection : Collection
+  pub len : ℕ
 
--- heard: the data joined by position is the body, and is judged
-abbrev pub wholeOf : Collection → Heard
-wholeOf c =
-    record { outcome = Released (judgeOf (joinedOf (c .lens) (c .room))); collection = c; len = length (joinedOf (c .lens) (c .room)) }
+abbrev pub leftOf : Heard → List ℕ → Left
+leftOf h room = record { outcome = h .outcome; last = h .last; collection = collectionOf (h .slots) room; len = h .len }
 
-abbrev pub countOf : Collection → Heard
-countOf c = countBy (λ (d : Collection). stayOf d Stored) wholeOf c
+-- nothing changes
+abbrev pub stayOf : ℕ → Collection → Outcome → Left
+stayOf last c outcome = record { outcome = outcome; last = last; collection = c; len = 0 }
+
+-- a reset: nothing is collected, and the last ID is 41h
+abbrev pub resetLeft : Left
+resetLeft = record { outcome = Reset; last = 0x41; collection = noneOf; len = 0 }
+
+-- no slot is held, and the room holds a body
+abbrev pub bodyIn : List ℕ → Collection
+bodyIn body = record { id = 0; total = 0; lens = replicate 6 0; room = roomOf body }
+
+-- Released: this body is judged, its ID is last completed, and nothing is being collected
+abbrev pub releasedOf : ℕ → List ℕ → Left
+releasedOf id body = record { outcome = Released (judgeOf body); last = id; collection = bodyIn body; len = length body }
+
+-- the data joined by position is the body
+abbrev pub wholeOf : Collection → Left
+wholeOf c = releasedOf (c .id) (joinedOf (c .lens) (c .room))
+
+abbrev pub countOf : ℕ → Collection → Left
+countOf last c = countBy (λ (d : Collection). stayOf last d Stored) wholeOf c
 
 -- what the reader lets pass: N 1 to 6, position below N, 1 to 14 data bytes, and 14 before the last
 pub record Right (total position len : ℕ) : Type 0 where
@@ -79,7 +99,3 @@ pub record Whole (c : Collection) : Type 0 where
   pub most : c .total ≤ 6
   pub slots : slotsOf (c .total) 0 (c .lens) (c .room) ≡ true
   pub full : c .total ≤ heldOf (c .lens)
-
--- what was heard is all of a whole collection, where it is Released
-abbrev pub Sure : Heard → Type 0
-Sure h = (v : Verdict) → h .outcome ≡ Released v → Whole (h .collection) × (h ≡ wholeOf (h .collection))

@@ -1,22 +1,20 @@
-// Which last ID and collection are sound. Answers to 01's last paragraph of "Numbers for no": "last ID 0 to 3Fh or 41h; .. Busy
-// collects nothing"; the packets collected are decided by their own crate.
-use collect::Collection;
+// Which last ID, slots and room are sound. Answers to 01's last paragraph of "Numbers for no": "last ID 0 to 3Fh or 41h; .. Busy
+// collects nothing"; the packets collected are decided by their own crate, and the room of a Busy sign is the running program's.
+use collect::Slots;
 use reply::is_last;
 ghost use mathlib.Core.Path.{_≡_};
+ghost use Rattle.collect.specs.Slots.{collectionOf};
 ghost use Rattle.hear.specs.Frame.{framedBy};
 
-// Whether all of a record but its run is sound: last completed ID, collection, and the length of the running body.
-pub fn framed(last: u8, collection: Collection, len: usize) -> bool
-    ensures { λ r. ⌜ r ≡ framedBy last collection len ⌝ }
+// Whether all of a record but its run is sound: last completed ID, slots and room, and the length of the running body.
+pub fn framed(last: u8, slots: Slots, room: &[u8; 84], len: usize) -> bool
+    ensures { λ r. ⌜ r ≡ framedBy last (collectionOf slots (now (room .entry))) len ⌝ }
 {
     if !is_last(last) {
         return false;
     }
-    if !collection.sound(last) {
-        return false;
-    }
     if len == 0 {
-        return true;
+        return slots.sound(last, room);
     }
-    collection.total == 0
+    slots.none()
 }

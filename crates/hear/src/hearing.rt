@@ -5,23 +5,39 @@ use crate::Outcome;
 use crate::frame::framed;
 use crate::join::join;
 use crate::join::stays;
-use collect::Collection;
+use collect::Slots;
+use collect::begun;
 use reader::Reading;
 use reader::read_packet;
 ghost use mathlib.Core.Path.{_≡_};
+ghost use Rattle.collect.specs.Slots.{collectionOf};
+ghost use Rattle.hear.specs.Join.{leftOf, resetLeft};
 ghost use Rattle.hear.specs.Hear.{hearOf};
 
-// What the bytes are, and the collection behind them; 16 where last ID and collection are not sound beside a running body's length.
-pub fn hear(last: u8, collection: Collection, len: usize, mid: u8, bytes: &[u8]) -> Heard
-    ensures { λ r. ⌜ r ≡ hearOf last collection len mid (now (bytes .entry)) ⌝ }
+// A reset leaves nothing collected, and the last ID 41h.
+fn cleared(room: &mut [u8; 84]) -> Heard
+    ensures { λ r. ⌜ leftOf r (now (room .exit)) ≡ resetLeft ⌝ }
 {
-    if !framed(last, collection, len) {
-        return stays(collection, Outcome::Refused(16));
+    *room = [0; 84];
+    Heard {
+        outcome: Outcome::Reset,
+        last: 0x41,
+        slots: begun(0, 0),
+        len: 0,
+    }
+}
+
+// What the bytes are, and what they leave of last ID, slots and room; 16 where these are not sound beside a running body's length.
+pub fn hear(last: u8, slots: Slots, len: usize, room: &mut [u8; 84], mid: u8, bytes: &[u8]) -> Heard
+    ensures { λ r. ⌜ leftOf r (now (room .exit)) ≡ hearOf last (collectionOf slots (now (room .entry))) len mid (now (bytes .entry)) ⌝ }
+{
+    if !framed(last, slots, room, len) {
+        return stays(last, slots, Outcome::Refused(16));
     }
     let read = read_packet(mid, bytes);
     match read {
-        Reading::Query => stays(collection, Outcome::Query),
-        Reading::Reset => stays(collection, Outcome::Reset),
+        Reading::Query => stays(last, slots, Outcome::Query),
+        Reading::Reset => cleared(room),
         Reading::Normal {
             id,
             total,
@@ -31,14 +47,15 @@ pub fn hear(last: u8, collection: Collection, len: usize, mid: u8, bytes: &[u8])
             let end = 5 + size;
             join(
                 last,
-                collection,
+                slots,
                 len,
+                room,
                 id,
                 total,
                 position as usize,
                 &bytes[5..end],
             )
         }
-        Reading::Refused(n) => stays(collection, Outcome::Refused(n)),
+        Reading::Refused(n) => stays(last, slots, Outcome::Refused(n)),
     }
 }

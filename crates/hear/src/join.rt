@@ -3,112 +3,146 @@
 // 13. Position already held: equal data gives Repeat, other data 13. Otherwise Stored, and if all N are held, Released".
 use crate::Heard;
 use crate::Outcome;
-use collect::Collection;
+use collect::Slots;
 use collect::begun;
 use collect::held;
 use collect::same;
 use judge::judge;
 ghost use mathlib.Core.Path.{_≡_};
 ghost use mathlib.Core.Bool.{true};
-ghost use lib.ListN.{length};
-ghost use Rattle.collect.specs.Slots.{slotsOf, storedOf};
+ghost use mathlib.Core.List.{_++_};
+ghost use Prim.Native.Nat.{_*_, _≤_, _<_};
+ghost use lib.ListN.{length, take, drop};
+ghost use Rattle.basis.specs.Bytes.{laid};
+ghost use Rattle.collect.specs.Slots.{collectionOf, sameOf, slotsOf, storedOf};
 ghost use Rattle.collect.specs.Sound.{soundOf};
-ghost use Rattle.hear.specs.Join.{stayOf, wholeOf, countOf, goesBy, takingOf, joinBy, Right, Open, Whole};
+ghost use Rattle.hear.specs.Join.{leftOf, stayOf, wholeOf, countOf, goesBy, takingOf, joinBy, Right, Open, Whole};
 
-// The collection stays.
-pub(crate) fn stays(collection: Collection, outcome: Outcome) -> Heard
-    ensures { λ r. ⌜ r ≡ stayOf collection outcome ⌝ }
+// Nothing changes.
+pub(crate) fn stays(last: u8, slots: Slots, outcome: Outcome) -> Heard
+    ensures { λ r. ⌜ r ≡ record { outcome = outcome; last = last; slots = slots; len = 0 } ⌝ }
 {
     Heard {
         outcome,
-        collection,
+        last,
+        slots,
         len: 0,
     }
 }
 
 // All packets are held: the body is released.
-fn released(collection: Collection) -> Heard
-    requires { ⌜ Whole collection ⌝ }
-    ensures { λ r. ⌜ r ≡ wholeOf collection ⌝ }
+fn released(slots: Slots, room: &[u8]) -> Heard
+    requires { ⌜ Whole (collectionOf slots (now room)) × (length (now room) ≡ 84) ⌝ }
+    ensures { λ r. ⌜ leftOf r (now (room .entry)) ≡ wholeOf (collectionOf slots (now (room .entry))) ⌝ }
 {
-    let lens = collection.lens;
-    let body = collection.room;
-    let at = collection.total as usize - 1;
+    let lens = slots.lens;
+    let at = slots.total as usize - 1;
     let len = 14 * at + lens[at] as usize;
-    let verdict = judge(&body[..len]);
+    let verdict = judge(&room[..len]);
     Heard {
         outcome: Outcome::Released(verdict),
-        collection,
+        last: slots.id,
+        slots: begun(0, 0),
         len,
     }
 }
 
-// The data take their free position in a collection.
-fn placed(collection: Collection, position: usize, part: &[u8]) -> Heard
-    requires { ⌜ Open collection position (length (now part)) ⌝ }
-    ensures { λ r. ⌜ r ≡ countOf (storedOf collection position (now (part .entry))) ⌝ }
+// Writes data to the front of a position's slot.
+fn fill(room: &mut [u8], position: usize, part: &[u8])
+    requires { ⌜ (length (now room) ≡ 84) × ((position < 6) × (length (now part) ≤ 14)) ⌝ }
+    ensures { λ _. ⌜ now (room .exit) ≡ laid (take (14 * position) (now (room .entry)) ++ now (part .entry)) (now (room .entry)) ⌝ }
 {
-    let next = collection.stored(position, part);
+    let at = 14 * position;
+    let to = at + 14;
+    bytes::copy(part, &mut room[at..to]);
+}
+
+// The data take their free position.
+fn placed(last: u8, slots: Slots, room: &mut [u8; 84], position: usize, part: &[u8]) -> Heard
+    requires { ⌜ Open (collectionOf slots (now room)) position (length (now part)) ⌝ }
+    ensures { λ r. ⌜ leftOf r (now (room .exit)) ≡ countOf last (storedOf (collectionOf slots (now (room .entry))) position (now (part .entry))) ⌝ }
+{
+    let mut next = slots;
+    next.lens[position] = part.len() as u8;
+    fill(room, position, part);
     let lens = next.lens;
     if held(lens) < next.total as usize {
-        return stays(next, Outcome::Stored);
+        return stays(last, next, Outcome::Stored);
     }
-    released(next)
+    released(next, room)
 }
 
-// The collection that a packet of this ID goes into: a new one, where none is collected or another ID is.
-fn taking(collection: Collection, id: u8, total: u8) -> Collection
-    ensures { λ r. ⌜ r ≡ takingOf collection id total ⌝ }
+// The slots that a packet of this ID goes into: new ones, where none is collected or another ID is, with zeros in the room.
+fn taking(slots: Slots, room: &mut [u8; 84], id: u8, total: u8) -> Slots
+    ensures { λ r. ⌜ collectionOf r (now (room .exit)) ≡ takingOf (collectionOf slots (now (room .entry))) id total ⌝ }
 {
-    if collection.total == 0 {
+    if slots.total == 0 {
+        *room = [0; 84];
         return begun(id, total);
     }
-    if collection.id != id {
+    if slots.id != id {
+        *room = [0; 84];
         return begun(id, total);
     }
-    collection
+    slots
 }
 
-// A packet goes into this collection.
-fn goes_into(collection: Collection, total: u8, position: usize, part: &[u8]) -> Heard
-    requires { ⌜ (slotsOf (collection .total) 0 (collection .lens) (collection .room) ≡ true) × Right total position (length (now part)) ⌝ }
-    ensures { λ r. ⌜ r ≡ goesBy (stayOf collection) countOf collection total position (now (part .entry)) ⌝ }
+// Whether a position's slot holds these data.
+fn holds(room: &[u8], position: usize, len: u8, part: &[u8]) -> bool
+    requires { ⌜ (length (now room) ≡ 84) × ((position < 6) × (len ≤ 14)) ⌝ }
+    ensures { λ r. ⌜ r ≡ sameOf (take len (drop (14 * position) (now (room .entry)))) (now (part .entry)) ⌝ }
 {
-    let lens = collection.lens;
-    let room = collection.room;
-    if collection.total != total {
-        return stays(collection, Outcome::Refused(13));
+    let from = 14 * position;
+    let to = from + len as usize;
+    same(&room[from..to], part)
+}
+
+// A packet goes into these slots.
+fn goes_into(
+    last: u8,
+    slots: Slots,
+    room: &mut [u8; 84],
+    total: u8,
+    position: usize,
+    part: &[u8],
+) -> Heard
+    requires { ⌜ (slotsOf (slots .total) 0 (slots .lens) (now room) ≡ true) × Right total position (length (now part)) ⌝ }
+    ensures { λ r. ⌜ leftOf r (now (room .exit)) ≡ goesBy (stayOf last (collectionOf slots (now (room .entry)))) (countOf last) (collectionOf slots (now (room .entry))) total position (now (part .entry)) ⌝ }
+{
+    let lens = slots.lens;
+    if slots.total != total {
+        return stays(last, slots, Outcome::Refused(13));
     }
     let len = lens[position];
     if len == 0 {
-        return placed(collection, position, part);
+        return placed(last, slots, room, position, part);
     }
-    let from = 14 * position;
-    let to = from + len as usize;
-    if same(&room[from..to], part) {
-        return stays(collection, Outcome::Repeat);
+    if holds(room, position, len, part) {
+        return stays(last, slots, Outcome::Repeat);
     }
-    stays(collection, Outcome::Refused(13))
+    stays(last, slots, Outcome::Refused(13))
 }
 
-// A normal packet of a right length and place, beside a last completed ID, a sound collection and a running body's length.
+// A normal packet of a right length and place, beside a last completed ID, and sound slots where no body is running.
 pub(crate) fn join(
     last: u8,
-    collection: Collection,
+    slots: Slots,
     len: usize,
+    room: &mut [u8; 84],
     id: u8,
     total: u8,
     position: usize,
     part: &[u8],
 ) -> Heard
-    requires { ⌜ (soundOf last collection ≡ true) × Right total position (length (now part)) ⌝ }
-    ensures { λ r. ⌜ r ≡ joinBy (stayOf collection) countOf last collection len id total position (now (part .entry)) ⌝ }
+    requires { ⌜ (len ≡ 0 → soundOf last (collectionOf slots (now room)) ≡ true) × Right total position (length (now part)) ⌝ }
+    ensures { λ r. ⌜ leftOf r (now (room .exit)) ≡ joinBy (stayOf last (collectionOf slots (now (room .entry)))) (countOf last) last (collectionOf slots (now (room .entry))) len id total position (now (part .entry)) ⌝ }
 {
     if id == last {
-        return stays(collection, Outcome::Repeat);
+        return stays(last, slots, Outcome::Repeat);
     }
     if len != 0 {
-        return stays(collection, Outcome::Refused(12));
+        return stays(last, slots, Outcome::Refused(12));
     }
-    goes_into(taking(collection, id, total), total, position, part)
+    let into = taking(slots, room, id, total);
+    goes_into(last, into, room, total, position, part)
 }

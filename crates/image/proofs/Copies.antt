@@ -1,13 +1,10 @@
--- A copy that fills its room is what was copied; a Bool as a byte; the length of a part.
-use Prim.Native.Nat.{ℕ, _+_, _≤_}
-use mathlib.Core.Bool.{Bool, true, false}
+-- A copy that fills its room is what was copied.
+use Prim.Native.Nat.{ℕ, _≤_}
 use mathlib.Core.List.{List, _++_, append-nil}
-use mathlib.Core.Path.{_≡_, refl, ap, _∙_}
+use mathlib.Core.Path.{_≡_, ap, _∙_}
 use native.Mathlib.Omega.{arith}
 use lib.ListN.{length, take, drop, drop-of-length-le}
 use lib.Seq.{take-all}
-use mir.Val.{boolByte}
-use Rattle.basis.specs.Choice.{when}
 
 pub filled : (s room y : List ℕ) → length s ≡ length room → y ≡ take (length s) s ++ drop (length s) room → y ≡ s
 filled s room y e h =
@@ -17,8 +14,3 @@ filled s room y e h =
     ∙ ap (λ (r : List ℕ). take (length s) s ++ r) (drop-of-length-le room none)
     ∙ append-nil (take (length s) s)
     ∙ take-all (length s) s whole
-
--- a Bool as a byte
-pub byte-of : (b : Bool) → boolByte b ≡ when b 1 0
-byte-of true = refl
-byte-of false = refl

@@ -24,7 +24,6 @@ use Rattle.loops.specs.declared.Role.{Role}
 use Rattle.loops.specs.declared.Role.the-variants.{Plain, Repeat, Close, Forever, Again}
 use Rattle.loops.proofs.Moves.{next-is}
 use Rattle.course.specs.Steps.{Frame, frame, ready, at, settle, closed, returned, goesOf, wentAt, saidAt}
-use Rattle.machine.specs.Sound.{bodyOf}
 use Rattle.machine.specs.Step.{outside, framesOf, loopOf, runOf, sayOf}
 use Rattle.machine.specs.Moves.{settledOf, closedOf, returnedOf, movedOf, ranOf}
 use Rattle.machine.specs.declared.Answer.{Answer}
@@ -88,13 +87,12 @@ moved-by Forever b p c r e = return-by r p (r .inner .place) (r .inner .left) (r
 moved-by Again b p c r e = settle-is r 0 (framesOf (r .inner)) (r .settings)
 
 -- a Busy run with a good command at its place
-pub ran-good : (r : Run) (c : Command) (w : ℕ) (x : Run) (y : Performed) → readOf (bodyOf r) (r .place) ≡ Good c
-    → w ≡ widthOf (take (c .len) (drop (c .text) (bodyOf r)))
+pub ran-good : (b : List ℕ) (r : Run) (c : Command) (w : ℕ) (x : Run) (y : Performed) → readOf b (r .place) ≡ Good c
+    → w ≡ widthOf (take (c .len) (drop (c .text) b))
     → y ≡ answerOf (c .kind) (c .number) (c .text) (c .len) w (r .settings)
     → x ≡ movedOf (roleOf (c .kind)) (c .kind) (c .number) r (c .next)
-    → _≡_ {A = Stepped} (record { run = x; answer = Did y }) (ranOf r)
-ran-good r c w x y e ew ey ex =
-    let b = bodyOf r in
+    → _≡_ {A = Stepped} (record { run = x; answer = Did y }) (ranOf b r)
+ran-good b r c w x y e ew ey ex =
     let p = r .place in
     let ρ = roleOf (c .kind) in
     let part = partOf ρ (actOf b p c) in

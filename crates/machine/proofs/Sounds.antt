@@ -4,9 +4,10 @@ use mathlib.Core.List.{List}
 use mathlib.Core.Bool.{Bool, true, false}
 use mathlib.Core.Path.{_≡_, refl, sym, ap, _∙_}
 use native.Mathlib.Omega.{arith}
-use lib.ListN.{drop}
+use lib.ListN.{length, drop}
+use lib.Seq.{length-take-le}
 use lib.Dec.{eqb, leb}
-use borrow.Author.Tests.{leb-true}
+use borrow.Author.Tests.{leb-true, eqb-true, eqb-false}
 use Rattle.basis.specs.Choice.{when, _and_}
 use Rattle.basis.proofs.Choices.{and-parts}
 use Rattle.basis.proofs.Tests.{tests}
@@ -20,55 +21,46 @@ use Rattle.grammar.proofs.Standings.{At, stands-at}
 use Rattle.judge.specs.Standing.{standOf, seenOf}
 use Rattle.perform.specs.Settings.{soundOf as settingsSound}
 use Rattle.room.specs.Room.{zerosOf}
-use Rattle.machine.specs.Sound.{bodyOf, restsOf, heldOf, tidyBy, tidyOf, soundOf}
-use Rattle.perform.specs.declared.settings.Settings.{Settings}
+use Rattle.grammar.specs.Grammar.{acceptedAs}
+use Rattle.course.proofs.Programs.{accepting}
+use Rattle.machine.specs.Sound.{bodyOf, restsOf, heldOf, filledOf, runsOf, soundOf}
 use Rattle.machine.specs.declared.Loop.{Loop}
 use Rattle.machine.specs.declared.Run.{Run}
-use Rattle.machine.proofs.Reached.{here}
+use Rattle.machine.proofs.Reached.{here, accepted-yes}
 
--- which of the first parts decides
-module _ (b : List ℕ) (n : ℕ) (σ : Settings) (fits : n ≤ 84) where
-  pub unclean : zerosOf (drop n b) ≡ false → tidyBy b n σ ≡ false
-  unclean z = search (tests, z)
-
-  pub set-tidy : zerosOf (drop n b) ≡ true → tidyBy b n σ ≡ settingsSound σ
-  set-tidy z = search (tests, z)
-
--- where the first parts hold, the last decides
-module _ (r : Run) (fits : r .len ≤ 84) (clean : zerosOf (drop (r .len) (r .body)) ≡ true) (set : settingsSound (r .settings) ≡ true) where
-  pub resting : r .len ≡ 0 → soundOf r ≡ restsOf (r .place) (r .inner)
-  unfolding soundOf
-  resting h = search (tests, clean, set)
-
-  pub running : (r .len ≡ 0 → ⊥) → soundOf r ≡ heldOf (standOf (bodyOf r) (r .place)) (r .inner)
-  unfolding soundOf
-  running h = search (tests, clean, set)
-
--- the three first parts, and the fourth
-and-four : (a b c d : Bool) → (a and b and c and d) ≡ ((a and b and c) and d)
-and-four false b c d = refl
-and-four true false c d = refl
-and-four true true c d = refl
-
-pub untidy-sound : (r : Run) → tidyOf r ≡ false → soundOf r ≡ false
+-- unsound settings decide
+pub unset : (room : List ℕ) (r : Run) → settingsSound (r .settings) ≡ false → soundOf room r ≡ false
 unfolding soundOf
-untidy-sound r e =
-    let last = when (eqb (r .len) 0) (restsOf (r .place) (r .inner)) (heldOf (standOf (bodyOf r) (r .place)) (r .inner)) in
-    and-four (leb (r .len) 84) (zerosOf (drop (r .len) (r .body))) (settingsSound (r .settings)) last ∙ ap (λ (t : Bool). t and last) e
+unset room r e =
+    ap (λ (t : Bool). t and when (eqb (r .len) 0) (restsOf (r .place) (r .inner)) (runsOf room r)) e
 
-module _ (r : Run) (tidy : tidyOf r ≡ true) where
-  pub tidy-fits : r .len ≤ 84
-  tidy-fits = leb-true (r .len) 84 (and-parts (leb (r .len) 84) _ tidy .0)
+-- where the settings are sound, the rest decides
+module _ (room : List ℕ) (r : Run) (set : settingsSound (r .settings) ≡ true) where
+  pub resting : r .len ≡ 0 → soundOf room r ≡ restsOf (r .place) (r .inner)
+  unfolding soundOf
+  resting h = search (tests, set)
 
-  pub tidy-resting : r .len ≡ 0 → soundOf r ≡ restsOf (r .place) (r .inner)
-  tidy-resting h =
-      let b = and-parts (zerosOf (drop (r .len) (r .body))) _ (and-parts (leb (r .len) 84) _ tidy .1) in
-      resting r tidy-fits (b .0) (b .1) h
+  going : (r .len ≡ 0 → ⊥) → soundOf room r ≡ runsOf room r
+  unfolding soundOf
+  going h = search (tests, set)
 
-  pub tidy-running : (r .len ≡ 0 → ⊥) → soundOf r ≡ heldOf (standOf (bodyOf r) (r .place)) (r .inner)
-  tidy-running h =
-      let b = and-parts (zerosOf (drop (r .len) (r .body))) _ (and-parts (leb (r .len) 84) _ tidy .1) in
-      running r tidy-fits (b .0) (b .1) h
+  pub unfilled : (r .len ≡ 0 → ⊥) → filledOf room (r .len) ≡ false → soundOf room r ≡ false
+  unfilled h e = going h ∙ ap (λ (t : Bool). t and heldOf (standOf (bodyOf room r) (r .place)) (r .inner)) e
+
+  pub running : (r .len ≡ 0 → ⊥) → filledOf room (r .len) ≡ true → soundOf room r ≡ heldOf (standOf (bodyOf room r) (r .place)) (r .inner)
+  running h e = going h ∙ ap (λ (t : Bool). t and heldOf (standOf (bodyOf room r) (r .place)) (r .inner)) e
+
+-- a Ready run is sound beside one room as beside another
+pub ready-anywhere : (room other : List ℕ) (r : Run) → r .len ≡ 0 → soundOf room r ≡ soundOf other r
+ready-anywhere room other r none = go (settingsSound (r .settings)) refl
+  where
+    go : (t : Bool) → settingsSound (r .settings) ≡ t → soundOf room r ≡ soundOf other r
+    go true e = resting room r e none ∙ sym (resting other r e none)
+    go false e = unset room r e ∙ sym (unset other r e)
+
+-- a room that holds a body holds it whole
+pub filled-fits : (room : List ℕ) (len : ℕ) → filledOf room len ≡ true → len ≤ length room
+filled-fits room len e = leb-true len (length room) (and-parts (leb len (length room)) _ e .0)
 
 -- what is read where a place is held
 pub held-seen : (s : Standing) (l : Loop) (x : Reading) (q : ℕ) → heldOf s l ≡ true → seenOf s x q ≡ x
@@ -76,44 +68,71 @@ held-seen Nowhere l x q h = let z : _≡_ {A = ℕ} 0 1 = cc in absurd (omega ar
 held-seen Outside l x q h = refl
 held-seen (Inside behind number) l x q h = refl
 
--- the parts of a sound run
-pub record Parts (r : Run) : Type 0 where
-  pub fits : r .len ≤ 84
-  pub clean : zerosOf (drop (r .len) (r .body)) ≡ true
-  pub set : settingsSound (r .settings) ≡ true
-  pub rests : r .len ≡ 0 → restsOf (r .place) (r .inner) ≡ true
-  pub held : (r .len ≡ 0 → ⊥) → heldOf (standOf (bodyOf r) (r .place)) (r .inner) ≡ true
-
-pub sound-parts : (r : Run) → soundOf r ≡ true → Parts r
-unfolding soundOf
-sound-parts r e =
-    let a = and-parts (leb (r .len) 84) _ e in
-    let b = and-parts (zerosOf (drop (r .len) (r .body))) _ (a .1) in
-    let c = and-parts (settingsSound (r .settings)) _ (b .1) in
-    let fits : r .len ≤ 84 = leb-true (r .len) 84 (a .0) in
-    record {
-      fits = fits;
-      clean = b .0;
-      set = c .0;
-      rests = λ h. sym (resting r fits (b .0) (c .0) h) ∙ e;
-      held = λ h. sym (running r fits (b .0) (c .0) h) ∙ e;
-    }
-
 -- where a place is held it stands somewhere
 somewhere : (s : Standing) (l : Loop) → heldOf s l ≡ true → s ≡ Nowhere → ⊥
 somewhere s l h e = let w : false ≡ true = sym (ap (λ (x : Standing). heldOf x l) e) ∙ h in let z : _≡_ {A = ℕ} 0 1 = cc in omega arith
 
--- a Busy sound run stands at a command of its accepted body
-pub busy-at : (r : Run) → soundOf r ≡ true → (r .len ≡ 0 → ⊥) → At (bodyOf r) (r .place) (standOf (bodyOf r) (r .place))
-busy-at r e busy =
-    let h = sound-parts r e .held busy in
-    stands-at (bodyOf r) (r .place) (standOf (bodyOf r) (r .place)) refl (somewhere (standOf (bodyOf r) (r .place)) (r .inner) h)
+-- a place that is held is one at a command of an accepted body
+module _ (b : List ℕ) (p : ℕ) (l : Loop) (held : heldOf (standOf b p) l ≡ true) where
+  pub held-at : At b p (standOf b p)
+  held-at = stands-at b p (standOf b p) refl (somewhere (standOf b p) l held)
 
--- so the command there is good
-pub busy-good : (r : Run) → soundOf r ≡ true → (r .len ≡ 0 → ⊥) → (n q : ℕ) → readOf (bodyOf r) (r .place) ≡ Bad n q → ⊥
-busy-good r e busy n q w =
-    let a = busy-at r e busy in
-    let h = here (bodyOf r) (r .place) (standOf (bodyOf r) (r .place)) a in
-    let k : bad n q ≡ good (h .part) = sym (ap (tokOf (bodyOf r) (r .place)) w) ∙ h .there in
-    let z : _≡_ {A = ℕ} 0 1 = cc in
-    omega arith
+  -- so the body has 84 bytes at most
+  pub held-most : length b ≤ 84
+  held-most =
+      let a = held-at in
+      accepting b (acceptedAs (a .endless)) (a .accepted) (accepted-yes (a .endless)) .1 .0
+
+  -- and the command there is good
+  pub held-good : (n q : ℕ) → readOf b p ≡ Bad n q → ⊥
+  held-good n q w =
+      let h = here b p (standOf b p) held-at in
+      let k : bad n q ≡ good (h .part) = sym (ap (tokOf b p) w) ∙ h .there in
+      let z : _≡_ {A = ℕ} 0 1 = cc in
+      omega arith
+
+-- the parts of a sound run, of which a Ready one has no word about the room
+pub record Parts (room : List ℕ) (r : Run) : Type 0 where
+  pub set : settingsSound (r .settings) ≡ true
+  pub fits : r .len ≤ length room
+  pub most : r .len ≤ 84
+  pub rests : r .len ≡ 0 → restsOf (r .place) (r .inner) ≡ true
+  pub filled : (r .len ≡ 0 → ⊥) → filledOf room (r .len) ≡ true
+  pub clean : (r .len ≡ 0 → ⊥) → zerosOf (drop (r .len) room) ≡ true
+  pub held : (r .len ≡ 0 → ⊥) → heldOf (standOf (bodyOf room r) (r .place)) (r .inner) ≡ true
+
+pub sound-parts : (room : List ℕ) (r : Run) → soundOf room r ≡ true → Parts room r
+unfolding soundOf
+sound-parts room r e =
+    let set = and-parts (settingsSound (r .settings)) _ e .0 in
+    go set (eqb (r .len) 0) refl
+  where
+    go : settingsSound (r .settings) ≡ true → (t : Bool) → eqb (r .len) 0 ≡ t → Parts room r
+    go set true q =
+        let none = eqb-true (r .len) 0 q in
+        record {
+          set = set;
+          fits = omega arith;
+          most = omega arith;
+          rests = λ h. sym (resting room r set h) ∙ e;
+          filled = λ h. absurd (h none);
+          clean = λ h. absurd (h none);
+          held = λ h. absurd (h none);
+        }
+    go set false q =
+        let busy = eqb-false (r .len) 0 q in
+        let runs = and-parts (filledOf room (r .len)) _ (sym (going room r set busy) ∙ e) in
+        let fits = filled-fits room (r .len) (runs .0) in
+        record {
+          set = set;
+          fits = fits;
+          most = omega (arith, length-take-le (r .len) room fits, held-most (bodyOf room r) (r .place) (r .inner) (runs .1));
+          rests = λ h. absurd (busy h);
+          filled = λ h. runs .0;
+          clean = λ h. and-parts (leb (r .len) (length room)) _ (runs .0) .1;
+          held = λ h. runs .1;
+        }
+
+-- a Busy sound run stands at a command of its accepted body
+pub busy-at : (room : List ℕ) (r : Run) → soundOf room r ≡ true → (r .len ≡ 0 → ⊥) → At (bodyOf room r) (r .place) (standOf (bodyOf room r) (r .place))
+busy-at room r e busy = held-at (bodyOf room r) (r .place) (r .inner) (sound-parts room r e .held busy)

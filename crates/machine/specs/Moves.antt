@@ -1,6 +1,7 @@
 -- What a command makes of a run's record, field by field: the step of specs/Step written for a record with one open loop.
 -- Contracts of private functions cite it, and no public one does.
 use Prim.Native.Nat.{ℕ, _-_}
+use mathlib.Core.List.{List}
 use lib.Dec.{eqb, leb}
 use Rattle.basis.specs.Choice.{when}
 use Rattle.program.specs.declared.Kind.{Kind}
@@ -10,7 +11,6 @@ use Rattle.loops.specs.Token.{get}
 use Rattle.loops.specs.declared.Role.{Role}
 use Rattle.loops.specs.declared.Role.the-variants.{Plain, Repeat, Close, Forever, Again}
 use Rattle.course.specs.Steps.{nextOf, saidOf, at}
-use Rattle.machine.specs.Sound.{bodyOf}
 use Rattle.machine.specs.Step.{outside, framesOf, loopOf, readyOf, runOf, sayOf}
 use Rattle.machine.specs.declared.Loop.{Loop}
 use Rattle.machine.specs.declared.Run.{Run}
@@ -20,7 +20,7 @@ use Rattle.machine.specs.declared.Stepped.{Stepped}
 abbrev pub settledOf : Run → ℕ → Loop → Settings → Run
 settledOf r place inner σ =
     when (leb (r .len) place) (readyOf σ)
-    (record { body = r .body; len = r .len; place = place; inner = inner; settings = σ })
+    (record { len = r .len; place = place; inner = inner; settings = σ })
 
 abbrev pub closedOf : Run → ℕ → Run
 closedOf r next =
@@ -38,10 +38,10 @@ movedOf Close k n r next = closedOf r next
 movedOf Forever k n r next = returnedOf r next
 movedOf Again k n r next = settledOf r 0 (loopOf (framesOf (r .inner))) (r .settings)
 
--- a Busy run gone on by one command
-abbrev pub ranOf : Run → Stepped
-ranOf r =
+-- a Busy run of a body gone on by one command
+abbrev pub ranOf : List ℕ → Run → Stepped
+ranOf body r =
     record {
-      run = runOf r (nextOf (get (bodyOf r)) (r .len) (at (r .place) (framesOf (r .inner)) (r .settings)));
-      answer = sayOf (saidOf (get (bodyOf r)) (at (r .place) (framesOf (r .inner)) (r .settings)));
+      run = runOf r (nextOf (get body) (r .len) (at (r .place) (framesOf (r .inner)) (r .settings)));
+      answer = sayOf (saidOf (get body) (at (r .place) (framesOf (r .inner)) (r .settings)));
     }

@@ -4,8 +4,6 @@
 use Prim.Native.Nat.{ℕ, zero, suc}
 use mathlib.Core.List.{List, [], _∷_}
 use lib.Dec.{eqb}
-use lib.ListN.{length, replicate}
-use Rattle.basis.specs.Bytes.{laid}
 use Rattle.basis.specs.Choice.{when}
 use Rattle.perform.specs.declared.settings.Settings.{Settings}
 use Rattle.loops.specs.Token.{get}
@@ -34,44 +32,51 @@ loopOf (frame p k ∷ fs) = record { place = p; left = k }
 abbrev pub stateOf : Run → State
 stateOf r = when (eqb (r .len) 0) (ready (r .settings)) (at (r .place) (framesOf (r .inner)) (r .settings))
 
--- Ready holds no body, and places and count are 0
+-- Ready has no body, and places and count are 0
 unfoldable pub readyOf : Settings → Run
-readyOf σ = record { body = replicate 84 0; len = 0; place = 0; inner = outside; settings = σ }
+readyOf σ = record { len = 0; place = 0; inner = outside; settings = σ }
 
 -- the run of the same body in another state
 abbrev pub runOf : Run → State → Run
 runOf r (ready σ) = readyOf σ
-runOf r (at p fs σ) = record { body = r .body; len = r .len; place = p; inner = loopOf fs; settings = σ }
+runOf r (at p fs σ) = record { len = r .len; place = p; inner = loopOf fs; settings = σ }
 
 abbrev pub sayOf : Said → Answer
 sayOf (did x) = Did x
 sayOf idle = Idle
 
 -- Idle changes nothing; a Busy run goes on by one command
-abbrev pub wentOf : Run → Stepped
-wentOf r =
+abbrev pub wentOf : List ℕ → Run → Stepped
+wentOf room r =
     when (eqb (r .len) 0) (record { run = r; answer = Idle })
     (record {
-      run = runOf r (nextOf (get (bodyOf r)) (r .len) (stateOf r));
-      answer = sayOf (saidOf (get (bodyOf r)) (stateOf r));
+      run = runOf r (nextOf (get (bodyOf room r)) (r .len) (stateOf r));
+      answer = sayOf (saidOf (get (bodyOf room r)) (stateOf r));
     })
 
 -- an unsound run stays, and is told 16
 abbrev pub unsoundOf : Run → Stepped
 unsoundOf r = record { run = r; answer = Refused 16 }
 
-unfoldable pub stepOf : Run → Stepped
-stepOf r = when (soundOf r) (wentOf r) (unsoundOf r)
+-- one step of a run whose body stands at the front of a room
+unfoldable pub stepOf : List ℕ → Run → Stepped
+stepOf room r = when (soundOf room r) (wentOf room r) (unsoundOf r)
 
--- so many steps: the run behind them, and their answers
-abbrev pub afterRun : ℕ → Run → Run
-afterRun zero r = r
-afterRun (suc k) r = afterRun k (stepOf r .run)
+-- so many steps: the run after them, and their answers
+abbrev pub afterRun : ℕ → List ℕ → Run → Run
+afterRun zero room r = r
+afterRun (suc k) room r = afterRun k room (stepOf room r .run)
 
-abbrev pub saidRun : ℕ → Run → List Answer
-saidRun zero r = []
-saidRun (suc k) r = stepOf r .answer ∷ saidRun k (stepOf r .run)
+abbrev pub saidRun : ℕ → List ℕ → Run → List Answer
+saidRun zero room r = []
+saidRun (suc k) room r = stepOf room r .answer ∷ saidRun k room (stepOf room r .run)
 
--- a body just started: at its first command, with these settings; unused room holds zeros
-unfoldable pub startedOf : List ℕ → Settings → Run
-startedOf b σ = record { body = laid b (replicate 84 0); len = length b; place = 0; inner = outside; settings = σ }
+-- a body just started: at its first command, with these settings
+unfoldable pub startedOf : ℕ → Settings → Run
+startedOf len σ = record { len = len; place = 0; inner = outside; settings = σ }
+
+-- a step's answer in 01's words: the number for no, 0 for yes
+abbrev pub numberOf : Answer → ℕ
+numberOf (Did x) = 0
+numberOf Idle = 0
+numberOf (Refused n) = n

@@ -1,7 +1,8 @@
-// A running program ("One step, and what it costs"): its record and one step of it. The crate `reckon` forecasts all its steps.
+// A running program ("One step, and what it costs"): its place and one step of it. The crate `reckon` forecasts all its steps.
 //   sound    which runs are sound                                  "Ready has no body .. Busy .. has an accepted body and a place
 //            at a command, .."
 //   steps    one step: a command performed and the next run        "A step performs one command and answers .."
+// A run holds its body's length; the body itself is lent beside it, at the front of a room, and no step changes it.
 // specs/Line has the commands that a body performs, which the forecast and the promises speak of.
 mod sound;
 mod steps;
@@ -15,9 +16,8 @@ pub struct Loop {
     pub left: u8,
 }
 
-// A running body and its place, the open loop, and the settings. A length of 0 is Ready.
+// The running body's length and the place in it, the open loop, and the settings. A length of 0 is Ready.
 pub struct Run {
-    pub body: [u8; 84],
     pub len: usize,
     pub place: usize,
     pub inner: Loop,
@@ -31,7 +31,7 @@ pub enum Answer {
     Refused(u8),
 }
 
-// A step's answer with the run behind it.
+// A step's answer with the run after it.
 pub struct Stepped {
     pub run: Run,
     pub answer: Answer,

@@ -5,11 +5,9 @@ use crate::Loop;
 use crate::Run;
 use judge::Standing;
 use judge::stand;
-use perform::Settings;
 use room::clean;
 ghost use mathlib.Core.Path.{_≡_};
-ghost use Rattle.basis.specs.Choice.{_and_};
-ghost use Rattle.machine.specs.Sound.{restsOf, heldOf, tidyBy, soundOf};
+ghost use Rattle.machine.specs.Sound.{restsOf, heldOf, filledOf, soundOf};
 
 // Whether places and count are 0, as in a Ready run.
 pub(crate) fn rests(place: usize, inner: Loop) -> bool
@@ -50,36 +48,35 @@ pub(crate) fn held(standing: Standing, inner: Loop) -> bool
     }
 }
 
-// Whether length, unused room and settings are sound.
-pub(crate) fn tidy(body: &[u8], len: usize, settings: Settings) -> bool
-    ensures { λ r. ⌜ r ≡ tidyBy (now (body .entry)) len settings ⌝ }
+// Whether the room holds the body, and zeros after it.
+pub(crate) fn filled(room: &[u8], len: usize) -> bool
+    ensures { λ r. ⌜ r ≡ filledOf (now (room .entry)) len ⌝ }
 {
-    if 84 < len {
+    if room.len() < len {
         return false;
     }
-    if !clean(body, len) {
-        return false;
-    }
-    settings.sound()
+    clean(room, len)
 }
 
 impl Run {
-    // Whether the run is sound.
-    pub fn sound(self) -> bool
-        ensures { λ r. ⌜ r ≡ soundOf self ⌝ }
+    // Whether the run is sound, with its body at the front of this room.
+    pub fn sound(self, room: &[u8]) -> bool
+        ensures { λ r. ⌜ r ≡ soundOf (now (room .entry)) self ⌝ }
     {
-        let body = self.body;
         let len = self.len;
         let place = self.place;
         let inner = self.inner;
         let settings = self.settings;
-        if !tidy(&body, len, settings) {
+        if !settings.sound() {
             return false;
         }
         if len == 0 {
             return rests(place, inner);
         }
-        let standing = stand(&body[..len], place);
+        if !filled(room, len) {
+            return false;
+        }
+        let standing = stand(&room[..len], place);
         held(standing, inner)
     }
 }

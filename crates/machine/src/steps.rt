@@ -5,9 +5,9 @@ use crate::Answer;
 use crate::Loop;
 use crate::Run;
 use crate::Stepped;
+use crate::sound::filled;
 use crate::sound::held;
 use crate::sound::rests;
-use crate::sound::tidy;
 use judge::find;
 use loops::Role;
 use loops::role_of;
@@ -21,9 +21,9 @@ ghost use mathlib.Core.Path.{_≡_};
 ghost use mathlib.Core.List.{[]};
 ghost use mathlib.Core.Bool.{true};
 ghost use Rattle.program.specs.Command.{readOf};
-ghost use Rattle.program.specs.declared.Reading.the-variants.{Good};
 ghost use Rattle.loops.specs.Token.{roleOf};
-ghost use Rattle.machine.specs.Sound.{bodyOf, soundOf};
+ghost use Rattle.judge.specs.Standing.{standOf};
+ghost use Rattle.machine.specs.Sound.{heldOf};
 ghost use Rattle.machine.specs.Step.{framesOf, loopOf, readyOf, unsoundOf, stepOf};
 ghost use Rattle.machine.specs.Moves.{settledOf, closedOf, returnedOf, movedOf, ranOf};
 
@@ -49,7 +49,6 @@ fn ready(settings: Settings) -> Run
     ensures { λ r. ⌜ r ≡ readyOf settings ⌝ }
 {
     Run {
-        body: [0; 84],
         len: 0,
         place: 0,
         inner: none(),
@@ -124,10 +123,10 @@ impl Run {
         }
     }
 
-    // A Busy run goes on by what is read at its place, `live` being its running body.
-    fn run(self, live: &[u8], read: Reading) -> Stepped
-        requires { ⌜ (soundOf self ≡ true) × ((self .len ≡ 0 → ⊥) × ((read ≡ readOf (bodyOf self) (self .place)) × (now live ≡ bodyOf self))) ⌝ }
-        ensures { λ r. ⌜ r ≡ ranOf self ⌝ }
+    // A Busy run goes on by what is read at its place in the running body.
+    fn run(self, body: &[u8], read: Reading) -> Stepped
+        requires { ⌜ (heldOf (standOf (now body) (self .place)) (self .inner) ≡ true) × (read ≡ readOf (now body) (self .place)) ⌝ }
+        ensures { λ r. ⌜ r ≡ ranOf (now (body .entry)) self ⌝ }
     {
         let settings = self.settings;
         match read {
@@ -141,7 +140,7 @@ impl Run {
                 let number = command.number as u8;
                 let text = command.text;
                 let count = command.len;
-                let wide = text_width(live, text, count);
+                let wide = text_width(body, text, count);
                 let said = perform(kind, number, text, count, wide, settings);
                 Stepped {
                     run: self.moved(kind, number, command.next),
@@ -161,16 +160,16 @@ impl Run {
         }
     }
 
-    // One step: the next run with the answer; 16 for an unsound run. The command is read as soundness is tested, and not again.
-    pub fn step(self) -> Stepped
-        ensures { λ r. ⌜ r ≡ stepOf self ⌝ }
+    // One step, with the body at the front of this room: the next run with the answer; 16 for an unsound run. The command is read as
+    // soundness is tested, and not again.
+    pub fn step(self, room: &[u8]) -> Stepped
+        ensures { λ r. ⌜ r ≡ stepOf (now (room .entry)) self ⌝ }
     {
-        let body = self.body;
         let len = self.len;
         let place = self.place;
         let inner = self.inner;
         let settings = self.settings;
-        if !tidy(&body, len, settings) {
+        if !settings.sound() {
             return self.unsound();
         }
         if len == 0 {
@@ -182,13 +181,16 @@ impl Run {
                 answer: Answer::Idle,
             };
         }
-        let live = &body[..len];
-        let found = find(live, place);
+        if !filled(room, len) {
+            return self.unsound();
+        }
+        let body = &room[..len];
+        let found = find(body, place);
         let standing = found.standing;
         let read = found.read;
         if !held(standing, inner) {
             return self.unsound();
         }
-        self.run(live, read)
+        self.run(body, read)
     }
 }

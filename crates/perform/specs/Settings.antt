@@ -2,8 +2,8 @@
 -- 01: "Pace and scan setting last until changed or reset"; "`XB`: above 31 acts as 31, 0 and 1 end forcing"; of a sound record
 -- "pace, scans, threshold in range, brightness 0 or 2 to 31".
 use Prim.Native.Nat.{ℕ}
-use mathlib.Core.Bool.{Bool, true, false}
-use lib.Dec.{eqb, ltb}
+use mathlib.Core.Bool.{Bool}
+use lib.Dec.{eqb, ltb, leb}
 use Rattle.basis.specs.Choice.{when, _and_, _or_, within}
 use Rattle.program.specs.declared.Kind.{Kind}
 use Rattle.program.specs.declared.Kind.the-variants.{II, IA, IB, S, L, E, F, R, XS, XF, P, Scans, W, XD, XB, Y}
@@ -22,7 +22,7 @@ changed (takes y) x = y
 pub record Changes : Type 0 where
   pub pace : Change ℕ
   pub scans : Change ℕ
-  pub sink : Change Bool
+  pub sink : Change ℕ
   pub dim : Change ℕ
   pub bright : Change ℕ
 
@@ -39,8 +39,9 @@ applied c σ =
       bright = changed (c .bright) (σ .bright);
     }
 
-abbrev pub sinks : Bool → Changes
-sinks b = record { pace = stays; scans = stays; sink = takes b; dim = stays; bright = stays }
+-- the AUX drive: 1 sinks, 0 floats
+abbrev pub drives : ℕ → Changes
+drives n = record { pace = stays; scans = stays; sink = takes n; dim = stays; bright = stays }
 
 -- above 31 acts as 31, 0 and 1 end forcing
 abbrev pub forcedOf : ℕ → ℕ
@@ -50,8 +51,8 @@ forcedOf n = when (ltb n 2) 0 (when (ltb 31 n) 31 n)
 abbrev pub changesOf : Kind → ℕ → Changes
 changesOf P n = record { pace = takes n; scans = stays; sink = stays; dim = stays; bright = stays }
 changesOf Scans n = record { pace = stays; scans = takes n; sink = stays; dim = stays; bright = stays }
-changesOf XS n = sinks true
-changesOf XF n = sinks false
+changesOf XS n = drives 1
+changesOf XF n = drives 0
 changesOf XD n = record { pace = stays; scans = stays; sink = stays; dim = takes n; bright = stays }
 changesOf XB n = record { pace = stays; scans = stays; sink = stays; dim = stays; bright = takes (forcedOf n) }
 changesOf II n = none
@@ -73,10 +74,11 @@ behindOf k n σ = applied (changesOf k n) σ
 abbrev pub brightOf : ℕ → Bool
 brightOf n = eqb n 0 or within 2 n 31
 
--- each setting in the range that its command takes, and brightness 0 or 2 to 31
+-- each setting in the range that its command takes, AUX drive 0 or 1, and brightness 0 or 2 to 31
 unfoldable pub soundOf : Settings → Bool
 soundOf σ =
     within 1 (σ .pace) 20
     and within 1 (σ .scans) 6
+    and leb (σ .sink) 1
     and within 1 (σ .dim) 255
     and brightOf (σ .bright)

@@ -4,11 +4,11 @@ use program::Kind;
 ghost use mathlib.Core.Path.{_≡_};
 ghost use Rattle.perform.specs.Settings.{soundOf, behindOf, forcedOf};
 
-// Pace, scans per shift, AUX drive (sink or float), dim threshold, forced brightness (0: not forced).
+// Pace, scans per shift, AUX drive (1: sink, 0: float), dim threshold, forced brightness (0: not forced).
 pub struct Settings {
     pub pace: u8,
     pub scans: u8,
-    pub sink: bool,
+    pub sink: u8,
     pub dim: u8,
     pub bright: u8,
 }
@@ -43,6 +43,9 @@ impl Settings {
         if 6 < self.scans {
             return false;
         }
+        if 1 < self.sink {
+            return false;
+        }
         if self.dim < 1 {
             return false;
         }
@@ -70,11 +73,11 @@ impl Settings {
                 next
             }
             Kind::XS => {
-                next.sink = true;
+                next.sink = 1;
                 next
             }
             Kind::XF => {
-                next.sink = false;
+                next.sink = 0;
                 next
             }
             Kind::XD => {

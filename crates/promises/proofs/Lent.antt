@@ -13,21 +13,9 @@ use Rattle.repeater.proofs.shows.Reads as repeater-shows-reads
 use Rattle.image.proofs.record_of as image-record-of
 use Rattle.image.proofs.record_of.Kinds as image-record-of-kinds
 use Rattle.image.proofs.record_of.Reads as image-record-of-reads
-use Rattle.image.proofs.run_of as image-run-of
-use Rattle.image.proofs.run_of.Kinds as image-run-of-kinds
-use Rattle.image.proofs.run_of.Reads as image-run-of-reads
-use Rattle.image.proofs.collection_of as image-collection-of
-use Rattle.image.proofs.collection_of.Kinds as image-collection-of-kinds
-use Rattle.image.proofs.collection_of.Reads as image-collection-of-reads
-use Rattle.image.proofs.front_bytes as image-front-bytes
-use Rattle.image.proofs.front_bytes.Kinds as image-front-bytes-kinds
-use Rattle.image.proofs.front_bytes.Reads as image-front-bytes-reads
-use Rattle.image.proofs.place_bytes as image-place-bytes
-use Rattle.image.proofs.place_bytes.Kinds as image-place-bytes-kinds
-use Rattle.image.proofs.place_bytes.Reads as image-place-bytes-reads
-use Rattle.words.proofs.lay as words-lay
-use Rattle.words.proofs.lay.Kinds as words-lay-kinds
-use Rattle.words.proofs.lay.Reads as words-lay-reads
+use Rattle.image.proofs.image_of as image-image-of
+use Rattle.image.proofs.image_of.Kinds as image-image-of-kinds
+use Rattle.image.proofs.image_of.Reads as image-image-of-reads
 use Rattle.words.proofs.tell_written as words-tell-written
 use Rattle.words.proofs.tell_written.Kinds as words-tell-written-kinds
 use Rattle.words.proofs.tell_written.Reads as words-tell-written-reads
@@ -43,27 +31,15 @@ use Rattle.words.proofs.tell_verdict.Reads as words-tell-verdict-reads
 use Rattle.words.proofs.tell_forecast as words-tell-forecast
 use Rattle.words.proofs.tell_forecast.Kinds as words-tell-forecast-kinds
 use Rattle.words.proofs.tell_forecast.Reads as words-tell-forecast-reads
-use Rattle.answers.proofs.lay_received as answers-lay-received
-use Rattle.answers.proofs.lay_received.Kinds as answers-lay-received-kinds
-use Rattle.answers.proofs.lay_received.Reads as answers-lay-received-reads
-use Rattle.answers.proofs.lay_performed as answers-lay-performed
-use Rattle.answers.proofs.lay_performed.Kinds as answers-lay-performed-kinds
-use Rattle.answers.proofs.lay_performed.Reads as answers-lay-performed-reads
-use Rattle.answers.proofs.lay_idle as answers-lay-idle
-use Rattle.answers.proofs.lay_idle.Kinds as answers-lay-idle-kinds
-use Rattle.answers.proofs.lay_idle.Reads as answers-lay-idle-reads
-use Rattle.held.proofs.lay_sign as held-lay-sign
-use Rattle.held.proofs.lay_sign.Kinds as held-lay-sign-kinds
-use Rattle.held.proofs.lay_sign.Reads as held-lay-sign-reads
-use Rattle.held.proofs.lay_cleared as held-lay-cleared
-use Rattle.held.proofs.lay_cleared.Kinds as held-lay-cleared-kinds
-use Rattle.held.proofs.lay_cleared.Reads as held-lay-cleared-reads
-use Rattle.held.proofs.lay_heard as held-lay-heard
-use Rattle.held.proofs.lay_heard.Kinds as held-lay-heard-kinds
-use Rattle.held.proofs.lay_heard.Reads as held-lay-heard-reads
-use Rattle.held.proofs.lay_stepped as held-lay-stepped
-use Rattle.held.proofs.lay_stepped.Kinds as held-lay-stepped-kinds
-use Rattle.held.proofs.lay_stepped.Reads as held-lay-stepped-reads
+use Rattle.words.proofs.tell_outcome as words-tell-outcome
+use Rattle.words.proofs.tell_outcome.Kinds as words-tell-outcome-kinds
+use Rattle.words.proofs.tell_outcome.Reads as words-tell-outcome-reads
+use Rattle.words.proofs.tell_received as words-tell-received
+use Rattle.words.proofs.tell_received.Kinds as words-tell-received-kinds
+use Rattle.words.proofs.tell_received.Reads as words-tell-received-reads
+use Rattle.words.proofs.tell_stepped as words-tell-stepped
+use Rattle.words.proofs.tell_stepped.Kinds as words-tell-stepped-kinds
+use Rattle.words.proofs.tell_stepped.Reads as words-tell-stepped-reads
 use Rattle.cabi.proofs.yd_read_packet as cabi-yd-read-packet
 use Rattle.cabi.proofs.yd_read_packet.Kinds as cabi-yd-read-packet-kinds
 use Rattle.cabi.proofs.yd_read_packet.Reads as cabi-yd-read-packet-reads
@@ -123,26 +99,10 @@ pub one-image-record-of : (κs : Lifetimes.Lfts 0) (a : World.ArgsD image-record
     → r ≡ r′
 one-image-record-of κs a r r′ s s′ h h′ = one h h′
 
-pub one-image-run-of : (κs : Lifetimes.Lfts 0) (a : World.ArgsD image-run-of.signature κs) (r r′ : World.ResD image-run-of.signature κs)
-    (s s′ : Clauses.AtExit (K.endedOf 0 image-run-of-kinds.ps image-run-of-kinds.r) κs) → image-run-of-reads.Post κs a r s → image-run-of-reads.Post κs a r′ s′ → r ≡ r′
-one-image-run-of κs a r r′ s s′ h h′ = one h h′
-
-pub one-image-collection-of : (κs : Lifetimes.Lfts 0) (a : World.ArgsD image-collection-of.signature κs) (r r′ : World.ResD image-collection-of.signature κs)
-    (s s′ : Clauses.AtExit (K.endedOf 0 image-collection-of-kinds.ps image-collection-of-kinds.r) κs) → image-collection-of-reads.Post κs a r s → image-collection-of-reads.Post κs a r′ s′ → r ≡ r′
-one-image-collection-of κs a r r′ s s′ h h′ = one h h′
-
-pub one-image-front-bytes : (κs : Lifetimes.Lfts 0) (a : World.ArgsD image-front-bytes.signature κs) (r r′ : World.ResD image-front-bytes.signature κs)
-    (s s′ : Clauses.AtExit (K.endedOf 0 image-front-bytes-kinds.ps image-front-bytes-kinds.r) κs) → image-front-bytes-reads.Post κs a r s → image-front-bytes-reads.Post κs a r′ s′ → r ≡ r′
-one-image-front-bytes κs a r r′ s s′ h h′ = one h h′
-
-pub one-image-place-bytes : (κs : Lifetimes.Lfts 0) (a : World.ArgsD image-place-bytes.signature κs) (r r′ : World.ResD image-place-bytes.signature κs)
-    (s s′ : Clauses.AtExit (K.endedOf 0 image-place-bytes-kinds.ps image-place-bytes-kinds.r) κs) → image-place-bytes-reads.Post κs a r s → image-place-bytes-reads.Post κs a r′ s′ → r ≡ r′
-one-image-place-bytes κs a r r′ s s′ h h′ = one h h′
-
-pub one-words-lay : (κs : Lifetimes.Lfts 2) (a : World.ArgsD words-lay.signature κs) (r r′ : World.ResD words-lay.signature κs)
-    (s s′ : Clauses.AtExit (K.endedOf 2 words-lay-kinds.ps words-lay-kinds.r) κs) → words-lay-reads.Post κs a r s → words-lay-reads.Post κs a r′ s′
-    → now (s .1 .0) ≡ now (s′ .1 .0)
-one-words-lay κs a r r′ s s′ h h′ = one h h′
+pub one-image-image-of : (κs : Lifetimes.Lfts 0) (a : World.ArgsD image-image-of.signature κs) (r r′ : World.ResD image-image-of.signature κs)
+    (s s′ : Clauses.AtExit (K.endedOf 0 image-image-of-kinds.ps image-image-of-kinds.r) κs) → image-image-of-reads.Post κs a r s → image-image-of-reads.Post κs a r′ s′
+    → r ≡ r′
+one-image-image-of κs a r r′ s s′ h h′ = one h h′
 
 pub one-words-tell-written : (κs : Lifetimes.Lfts 0) (a : World.ArgsD words-tell-written.signature κs) (r r′ : World.ResD words-tell-written.signature κs)
     (s s′ : Clauses.AtExit (K.endedOf 0 words-tell-written-kinds.ps words-tell-written-kinds.r) κs) → words-tell-written-reads.Post κs a r s → words-tell-written-reads.Post κs a r′ s′
@@ -169,40 +129,20 @@ pub one-words-tell-forecast : (κs : Lifetimes.Lfts 1) (a : World.ArgsD words-te
     → (r ≡ r′) × (now (s .1 .0) ≡ now (s′ .1 .0))
 one-words-tell-forecast κs a r r′ s s′ h h′ = (one (h .0) (h′ .0), one (h .1) (h′ .1))
 
-pub one-answers-lay-received : (κs : Lifetimes.Lfts 2) (a : World.ArgsD answers-lay-received.signature κs) (r r′ : World.ResD answers-lay-received.signature κs)
-    (s s′ : Clauses.AtExit (K.endedOf 2 answers-lay-received-kinds.ps answers-lay-received-kinds.r) κs) → answers-lay-received-reads.Post κs a r s → answers-lay-received-reads.Post κs a r′ s′
-    → now (s .1 .1 .1 .0) ≡ now (s′ .1 .1 .1 .0)
-one-answers-lay-received κs a r r′ s s′ h h′ = one h h′
+pub one-words-tell-outcome : (κs : Lifetimes.Lfts 0) (a : World.ArgsD words-tell-outcome.signature κs) (r r′ : World.ResD words-tell-outcome.signature κs)
+    (s s′ : Clauses.AtExit (K.endedOf 0 words-tell-outcome-kinds.ps words-tell-outcome-kinds.r) κs) → words-tell-outcome-reads.Post κs a r s → words-tell-outcome-reads.Post κs a r′ s′
+    → r ≡ r′
+one-words-tell-outcome κs a r r′ s s′ h h′ = one h h′
 
-pub one-answers-lay-performed : (κs : Lifetimes.Lfts 1) (a : World.ArgsD answers-lay-performed.signature κs) (r r′ : World.ResD answers-lay-performed.signature κs)
-    (s s′ : Clauses.AtExit (K.endedOf 1 answers-lay-performed-kinds.ps answers-lay-performed-kinds.r) κs) → answers-lay-performed-reads.Post κs a r s → answers-lay-performed-reads.Post κs a r′ s′
-    → now (s .1 .0) ≡ now (s′ .1 .0)
-one-answers-lay-performed κs a r r′ s s′ h h′ = one h h′
+pub one-words-tell-received : (κs : Lifetimes.Lfts 2) (a : World.ArgsD words-tell-received.signature κs) (r r′ : World.ResD words-tell-received.signature κs)
+    (s s′ : Clauses.AtExit (K.endedOf 2 words-tell-received-kinds.ps words-tell-received-kinds.r) κs) → words-tell-received-reads.Post κs a r s → words-tell-received-reads.Post κs a r′ s′
+    → (r ≡ r′) × (now (s .1 .1 .1 .0) ≡ now (s′ .1 .1 .1 .0))
+one-words-tell-received κs a r r′ s s′ h h′ = (one (h .0) (h′ .0), one (h .1) (h′ .1))
 
-pub one-answers-lay-idle : (κs : Lifetimes.Lfts 1) (a : World.ArgsD answers-lay-idle.signature κs) (r r′ : World.ResD answers-lay-idle.signature κs)
-    (s s′ : Clauses.AtExit (K.endedOf 1 answers-lay-idle-kinds.ps answers-lay-idle-kinds.r) κs) → answers-lay-idle-reads.Post κs a r s → answers-lay-idle-reads.Post κs a r′ s′
-    → now (s .0) ≡ now (s′ .0)
-one-answers-lay-idle κs a r r′ s s′ h h′ = one h h′
-
-pub one-held-lay-sign : (κs : Lifetimes.Lfts 1) (a : World.ArgsD held-lay-sign.signature κs) (r r′ : World.ResD held-lay-sign.signature κs)
-    (s s′ : Clauses.AtExit (K.endedOf 1 held-lay-sign-kinds.ps held-lay-sign-kinds.r) κs) → held-lay-sign-reads.Post κs a r s → held-lay-sign-reads.Post κs a r′ s′
+pub one-words-tell-stepped : (κs : Lifetimes.Lfts 1) (a : World.ArgsD words-tell-stepped.signature κs) (r r′ : World.ResD words-tell-stepped.signature κs)
+    (s s′ : Clauses.AtExit (K.endedOf 1 words-tell-stepped-kinds.ps words-tell-stepped-kinds.r) κs) → words-tell-stepped-reads.Post κs a r s → words-tell-stepped-reads.Post κs a r′ s′
     → (r ≡ r′) × (now (s .1 .0) ≡ now (s′ .1 .0))
-one-held-lay-sign κs a r r′ s s′ h h′ = (one (h .0) (h′ .0), one (h .1) (h′ .1))
-
-pub one-held-lay-cleared : (κs : Lifetimes.Lfts 1) (a : World.ArgsD held-lay-cleared.signature κs) (r r′ : World.ResD held-lay-cleared.signature κs)
-    (s s′ : Clauses.AtExit (K.endedOf 1 held-lay-cleared-kinds.ps held-lay-cleared-kinds.r) κs) → held-lay-cleared-reads.Post κs a r s → held-lay-cleared-reads.Post κs a r′ s′
-    → (r ≡ r′) × (now (s .1 .0) ≡ now (s′ .1 .0))
-one-held-lay-cleared κs a r r′ s s′ h h′ = (one (h .0) (h′ .0), one (h .1) (h′ .1))
-
-pub one-held-lay-heard : (κs : Lifetimes.Lfts 2) (a : World.ArgsD held-lay-heard.signature κs) (r r′ : World.ResD held-lay-heard.signature κs)
-    (s s′ : Clauses.AtExit (K.endedOf 2 held-lay-heard-kinds.ps held-lay-heard-kinds.r) κs) → held-lay-heard-reads.Post κs a r s → held-lay-heard-reads.Post κs a r′ s′
-    → (r ≡ r′) × ((now (s .1 .1 .0) ≡ now (s′ .1 .1 .0)) × (now (s .1 .1 .1 .0) ≡ now (s′ .1 .1 .1 .0)))
-one-held-lay-heard κs a r r′ s s′ h h′ = (one (h .0) (h′ .0), (one (h .1 .0) (h′ .1 .0), one (h .1 .1) (h′ .1 .1)))
-
-pub one-held-lay-stepped : (κs : Lifetimes.Lfts 2) (a : World.ArgsD held-lay-stepped.signature κs) (r r′ : World.ResD held-lay-stepped.signature κs)
-    (s s′ : Clauses.AtExit (K.endedOf 2 held-lay-stepped-kinds.ps held-lay-stepped-kinds.r) κs) → held-lay-stepped-reads.Post κs a r s → held-lay-stepped-reads.Post κs a r′ s′
-    → (r ≡ r′) × ((now (s .1 .0) ≡ now (s′ .1 .0)) × (now (s .1 .1 .0) ≡ now (s′ .1 .1 .0)))
-one-held-lay-stepped κs a r r′ s s′ h h′ = (one (h .0) (h′ .0), (one (h .1 .0) (h′ .1 .0), one (h .1 .1) (h′ .1 .1)))
+one-words-tell-stepped κs a r r′ s s′ h h′ = (one (h .0) (h′ .0), one (h .1) (h′ .1))
 
 pub one-cabi-yd-read-packet : (κs : Lifetimes.Lfts 2) (a : World.ArgsD cabi-yd-read-packet.signature κs) (r r′ : World.ResD cabi-yd-read-packet.signature κs)
     (s s′ : Clauses.AtExit (K.endedOf 2 cabi-yd-read-packet-kinds.ps cabi-yd-read-packet-kinds.r) κs) → cabi-yd-read-packet-reads.Post κs a r s → cabi-yd-read-packet-reads.Post κs a r′ s′

@@ -12,6 +12,7 @@ use Rattle.perform.specs.Price.{answerOf}
 use Rattle.perform.specs.Settings.{soundOf}
 use Rattle.perform.specs.declared.settings.Settings.{Settings}
 use Rattle.judge.specs.Verdict.{judgeOf}
+use Rattle.room.specs.Room.{roomOf}
 use Rattle.reckon.specs.Forecast.{settingsAt, forecastOf}
 use Rattle.machine.specs.Line.{lineOf}
 use Rattle.machine.specs.Step.{stepOf, afterRun, saidRun, startedOf}
@@ -24,34 +25,40 @@ use Rattle.reckon.proofs.Demand.{forecast-holds, forecast-never}
 use Rattle.machine.proofs.Follows.{ready-none}
 use Rattle.machine.proofs.Lines.{line-ends, line-never}
 use Rattle.promises.specs.Bench.{w5}
-use Rattle.promises.specs.Line.{after, said, LineRuns, ours, atOnce, madeUp, inventing, counting}
+use Rattle.promises.specs.Line.{Held, after, said, LineRuns, ours, atOnce, madeUp, inventing, counting}
 
-after-is : (k : ℕ) (r : Run) → after ours k r ≡ afterRun k r
-after-is zero r = refl
-after-is (suc k) r = after-is k (stepOf r .run)
+-- a run in its room
+abbrev held : List ℕ → Run → Held
+held room r = record { room = room; run = r }
 
-said-is : (k : ℕ) (r : Run) → said ours k r ≡ saidRun k r
-said-is zero r = refl
-said-is (suc k) r = ap (λ (xs : List Answer). stepOf r .answer ∷ xs) (said-is k (stepOf r .run))
+after-is : (k : ℕ) (room : List ℕ) (r : Run) → after ours k (held room r) ≡ held room (afterRun k room r)
+after-is zero room r = refl
+after-is (suc k) room r = after-is k room (stepOf room r .run)
 
-busy-is : (k : ℕ) (r : Run) → (afterRun k r .len ≡ 0 → ⊥) → ours .ready (after ours k r) ≡ false
-busy-is k r h = ap (λ (x : Run). eqb (x .len) 0) (after-is k r) ∙ ne-eqb (afterRun k r .len) 0 h
+said-is : (k : ℕ) (room : List ℕ) (r : Run) → said ours k (held room r) ≡ saidRun k room r
+said-is zero room r = refl
+said-is (suc k) room r = ap (λ (xs : List Answer). stepOf room r .answer ∷ xs) (said-is k room (stepOf room r .run))
+
+busy-is : (k : ℕ) (room : List ℕ) (r : Run) → (afterRun k room r .len ≡ 0 → ⊥) → ours .ready (after ours k (held room r)) ≡ false
+busy-is k room r h = ap (λ (x : Held). eqb (x .run .len) 0) (after-is k room r) ∙ ne-eqb (afterRun k room r .len) 0 h
 
 pub ours-runs : LineRuns ours
 ours-runs =
     record {
       finite = λ b σ set e.
           let l = line-ends b e σ set in
+          let r = startedOf (length b) σ in
+          let n = length (lineOf b σ) in
           record {
             foretold = forecast-holds b σ set e;
-            busy-before = λ k less. busy-is k (startedOf b σ) (l .busy-before k less);
+            busy-before = λ k less. busy-is k (roomOf b) r (l .busy-before k less);
             ready-then =
-                ap (λ (x : Run). eqb (x .len) 0) (after-is (length (lineOf b σ)) (startedOf b σ) ∙ l .ready-then) ∙ eq-eqb _ 0 (ready-none _);
-            answers = said-is (length (lineOf b σ)) (startedOf b σ) ∙ l .performed;
+                ap (λ (x : Held). eqb (x .run .len) 0) (after-is n (roomOf b) r ∙ ap (held (roomOf b)) (l .ready-then)) ∙ eq-eqb _ 0 (ready-none _);
+            answers = said-is n (roomOf b) r ∙ l .performed;
             most = l .most;
           };
       endless = λ b σ set e.
-          record { foretold = forecast-never b σ set e; never = λ k. busy-is k (startedOf b σ) (line-never b e σ set k) };
+          record { foretold = forecast-never b σ set e; never = λ k. busy-is k (roomOf b) (startedOf (length b) σ) (line-never b e σ set k) };
     }
 
 -- the settings that a sign is set to when it is switched on

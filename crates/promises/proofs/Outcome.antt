@@ -1,11 +1,14 @@
 -- One outcome: for each public call, any two outcomes that its contract allows are equal, of the answer and of every lent byte. It is
 -- stated over the contract as the prover reads it (`Post`), so no copy of a contract can drift from it.
-use mathlib.Core.Path.{_≡_, sym, _∙_}
+use mathlib.Core.Path.{_≡_, sym, ap, _∙_}
 use denote.Ref.{now}
 use contract.Lifetimes
 use denote.Triple.Clauses
 use borrow.Fn.World
 use borrow.Fn.Kinds as K
+use Rattle.collect.specs.Slots.{slotsIn}
+use Rattle.hear.specs.Join.{Left}
+use Rattle.hear.specs.declared.Heard.{Heard}
 use Rattle.reader.proofs.read_packet as reader-read-packet
 use Rattle.reader.proofs.read_packet.Kinds as reader-read-packet-kinds
 use Rattle.reader.proofs.read_packet.Reads as reader-read-packet-reads
@@ -183,24 +186,18 @@ use Rattle.hear.proofs.framed.Reads as hear-framed-reads
 use Rattle.hear.proofs.hear as hear-hear
 use Rattle.hear.proofs.hear.Kinds as hear-hear-kinds
 use Rattle.hear.proofs.hear.Reads as hear-hear-reads
-use Rattle.sign.proofs.start as sign-start
-use Rattle.sign.proofs.start.Kinds as sign-start-kinds
-use Rattle.sign.proofs.start.Reads as sign-start-reads
-use Rattle.sign.proofs.fresh as sign-fresh
-use Rattle.sign.proofs.fresh.Kinds as sign-fresh-kinds
-use Rattle.sign.proofs.fresh.Reads as sign-fresh-reads
 use Rattle.collect.proofs.begun as collect-begun
 use Rattle.collect.proofs.begun.Kinds as collect-begun-kinds
 use Rattle.collect.proofs.begun.Reads as collect-begun-reads
 use Rattle.collect.proofs.held as collect-held
 use Rattle.collect.proofs.held.Kinds as collect-held-kinds
 use Rattle.collect.proofs.held.Reads as collect-held-reads
-use Rattle.collect.proofs.Collection.stored as collect-Collection-stored
-use Rattle.collect.proofs.Collection.stored.Kinds as collect-Collection-stored-kinds
-use Rattle.collect.proofs.Collection.stored.Reads as collect-Collection-stored-reads
-use Rattle.collect.proofs.Collection.sound as collect-Collection-sound
-use Rattle.collect.proofs.Collection.sound.Kinds as collect-Collection-sound-kinds
-use Rattle.collect.proofs.Collection.sound.Reads as collect-Collection-sound-reads
+use Rattle.collect.proofs.Slots.none as collect-Slots-none
+use Rattle.collect.proofs.Slots.none.Kinds as collect-Slots-none-kinds
+use Rattle.collect.proofs.Slots.none.Reads as collect-Slots-none-reads
+use Rattle.collect.proofs.Slots.sound as collect-Slots-sound
+use Rattle.collect.proofs.Slots.sound.Kinds as collect-Slots-sound-kinds
+use Rattle.collect.proofs.Slots.sound.Reads as collect-Slots-sound-reads
 use Rattle.repeater.proofs.repeat as repeater-repeat
 use Rattle.repeater.proofs.repeat.Kinds as repeater-repeat-kinds
 use Rattle.repeater.proofs.repeat.Reads as repeater-repeat-reads
@@ -342,12 +339,12 @@ pub one-perform-settings-Settings-behind : (κs : Lifetimes.Lfts 0) (a : World.A
     (s s′ : Clauses.AtExit (K.endedOf 0 perform-settings-Settings-behind-kinds.ps perform-settings-Settings-behind-kinds.r) κs) → perform-settings-Settings-behind-reads.Post κs a r s → perform-settings-Settings-behind-reads.Post κs a r′ s′ → r ≡ r′
 one-perform-settings-Settings-behind κs a r r′ s s′ h h′ = one h h′
 
-pub one-machine-Run-step : (κs : Lifetimes.Lfts 0) (a : World.ArgsD machine-Run-step.signature κs) (r r′ : World.ResD machine-Run-step.signature κs)
-    (s s′ : Clauses.AtExit (K.endedOf 0 machine-Run-step-kinds.ps machine-Run-step-kinds.r) κs) → machine-Run-step-reads.Post κs a r s → machine-Run-step-reads.Post κs a r′ s′ → r ≡ r′
+pub one-machine-Run-step : (κs : Lifetimes.Lfts 1) (a : World.ArgsD machine-Run-step.signature κs) (r r′ : World.ResD machine-Run-step.signature κs)
+    (s s′ : Clauses.AtExit (K.endedOf 1 machine-Run-step-kinds.ps machine-Run-step-kinds.r) κs) → machine-Run-step-reads.Post κs a r s → machine-Run-step-reads.Post κs a r′ s′ → r ≡ r′
 one-machine-Run-step κs a r r′ s s′ h h′ = one h h′
 
-pub one-machine-Run-sound : (κs : Lifetimes.Lfts 0) (a : World.ArgsD machine-Run-sound.signature κs) (r r′ : World.ResD machine-Run-sound.signature κs)
-    (s s′ : Clauses.AtExit (K.endedOf 0 machine-Run-sound-kinds.ps machine-Run-sound-kinds.r) κs) → machine-Run-sound-reads.Post κs a r s → machine-Run-sound-reads.Post κs a r′ s′ → r ≡ r′
+pub one-machine-Run-sound : (κs : Lifetimes.Lfts 1) (a : World.ArgsD machine-Run-sound.signature κs) (r r′ : World.ResD machine-Run-sound.signature κs)
+    (s s′ : Clauses.AtExit (K.endedOf 1 machine-Run-sound-kinds.ps machine-Run-sound-kinds.r) κs) → machine-Run-sound-reads.Post κs a r s → machine-Run-sound-reads.Post κs a r′ s′ → r ≡ r′
 one-machine-Run-sound κs a r r′ s s′ h h′ = one h h′
 
 pub one-reckon-forecast : (κs : Lifetimes.Lfts 1) (a : World.ArgsD reckon-forecast.signature κs) (r r′ : World.ResD reckon-forecast.signature κs)
@@ -448,21 +445,19 @@ pub one-collect-same : (κs : Lifetimes.Lfts 2) (a : World.ArgsD collect-same.si
     (s s′ : Clauses.AtExit (K.endedOf 2 collect-same-kinds.ps collect-same-kinds.r) κs) → collect-same-reads.Post κs a r s → collect-same-reads.Post κs a r′ s′ → r ≡ r′
 one-collect-same κs a r r′ s s′ h h′ = one h h′
 
-pub one-hear-framed : (κs : Lifetimes.Lfts 0) (a : World.ArgsD hear-framed.signature κs) (r r′ : World.ResD hear-framed.signature κs)
-    (s s′ : Clauses.AtExit (K.endedOf 0 hear-framed-kinds.ps hear-framed-kinds.r) κs) → hear-framed-reads.Post κs a r s → hear-framed-reads.Post κs a r′ s′ → r ≡ r′
+pub one-hear-framed : (κs : Lifetimes.Lfts 1) (a : World.ArgsD hear-framed.signature κs) (r r′ : World.ResD hear-framed.signature κs)
+    (s s′ : Clauses.AtExit (K.endedOf 1 hear-framed-kinds.ps hear-framed-kinds.r) κs) → hear-framed-reads.Post κs a r s → hear-framed-reads.Post κs a r′ s′ → r ≡ r′
 one-hear-framed κs a r r′ s s′ h h′ = one h h′
 
-pub one-hear-hear : (κs : Lifetimes.Lfts 1) (a : World.ArgsD hear-hear.signature κs) (r r′ : World.ResD hear-hear.signature κs)
-    (s s′ : Clauses.AtExit (K.endedOf 1 hear-hear-kinds.ps hear-hear-kinds.r) κs) → hear-hear-reads.Post κs a r s → hear-hear-reads.Post κs a r′ s′ → r ≡ r′
-one-hear-hear κs a r r′ s s′ h h′ = one h h′
+-- what is heard and the room that it leaves are told by what is left
+heardIn : Left → Heard
+heardIn l = record { outcome = l .outcome; last = l .last; slots = slotsIn (l .collection); len = l .len }
 
-pub one-sign-start : (κs : Lifetimes.Lfts 0) (a : World.ArgsD sign-start.signature κs) (r r′ : World.ResD sign-start.signature κs)
-    (s s′ : Clauses.AtExit (K.endedOf 0 sign-start-kinds.ps sign-start-kinds.r) κs) → sign-start-reads.Post κs a r s → sign-start-reads.Post κs a r′ s′ → r ≡ r′
-one-sign-start κs a r r′ s s′ h h′ = one h h′
-
-pub one-sign-fresh : (κs : Lifetimes.Lfts 0) (a : World.ArgsD sign-fresh.signature κs) (r r′ : World.ResD sign-fresh.signature κs)
-    (s s′ : Clauses.AtExit (K.endedOf 0 sign-fresh-kinds.ps sign-fresh-kinds.r) κs) → sign-fresh-reads.Post κs a r s → sign-fresh-reads.Post κs a r′ s′ → r ≡ r′
-one-sign-fresh κs a r r′ s s′ h h′ = one h h′
+pub one-hear-hear : (κs : Lifetimes.Lfts 2) (a : World.ArgsD hear-hear.signature κs) (r r′ : World.ResD hear-hear.signature κs)
+    (s s′ : Clauses.AtExit (K.endedOf 2 hear-hear-kinds.ps hear-hear-kinds.r) κs) → hear-hear-reads.Post κs a r s → hear-hear-reads.Post κs a r′ s′
+    → (r ≡ r′) × (now (s .1 .1 .1 .0) ≡ now (s′ .1 .1 .1 .0))
+unfolding heardIn
+one-hear-hear κs a r r′ s s′ h h′ = (ap heardIn (one h h′), ap (λ (l : Left). l .collection .room) (one h h′))
 
 pub one-collect-begun : (κs : Lifetimes.Lfts 0) (a : World.ArgsD collect-begun.signature κs) (r r′ : World.ResD collect-begun.signature κs)
     (s s′ : Clauses.AtExit (K.endedOf 0 collect-begun-kinds.ps collect-begun-kinds.r) κs) → collect-begun-reads.Post κs a r s → collect-begun-reads.Post κs a r′ s′ → r ≡ r′
@@ -472,13 +467,13 @@ pub one-collect-held : (κs : Lifetimes.Lfts 0) (a : World.ArgsD collect-held.si
     (s s′ : Clauses.AtExit (K.endedOf 0 collect-held-kinds.ps collect-held-kinds.r) κs) → collect-held-reads.Post κs a r s → collect-held-reads.Post κs a r′ s′ → r ≡ r′
 one-collect-held κs a r r′ s s′ h h′ = one h h′
 
-pub one-collect-Collection-stored : (κs : Lifetimes.Lfts 1) (a : World.ArgsD collect-Collection-stored.signature κs) (r r′ : World.ResD collect-Collection-stored.signature κs)
-    (s s′ : Clauses.AtExit (K.endedOf 1 collect-Collection-stored-kinds.ps collect-Collection-stored-kinds.r) κs) → collect-Collection-stored-reads.Post κs a r s → collect-Collection-stored-reads.Post κs a r′ s′ → r ≡ r′
-one-collect-Collection-stored κs a r r′ s s′ h h′ = one h h′
+pub one-collect-Slots-none : (κs : Lifetimes.Lfts 0) (a : World.ArgsD collect-Slots-none.signature κs) (r r′ : World.ResD collect-Slots-none.signature κs)
+    (s s′ : Clauses.AtExit (K.endedOf 0 collect-Slots-none-kinds.ps collect-Slots-none-kinds.r) κs) → collect-Slots-none-reads.Post κs a r s → collect-Slots-none-reads.Post κs a r′ s′ → r ≡ r′
+one-collect-Slots-none κs a r r′ s s′ h h′ = one h h′
 
-pub one-collect-Collection-sound : (κs : Lifetimes.Lfts 0) (a : World.ArgsD collect-Collection-sound.signature κs) (r r′ : World.ResD collect-Collection-sound.signature κs)
-    (s s′ : Clauses.AtExit (K.endedOf 0 collect-Collection-sound-kinds.ps collect-Collection-sound-kinds.r) κs) → collect-Collection-sound-reads.Post κs a r s → collect-Collection-sound-reads.Post κs a r′ s′ → r ≡ r′
-one-collect-Collection-sound κs a r r′ s s′ h h′ = one h h′
+pub one-collect-Slots-sound : (κs : Lifetimes.Lfts 1) (a : World.ArgsD collect-Slots-sound.signature κs) (r r′ : World.ResD collect-Slots-sound.signature κs)
+    (s s′ : Clauses.AtExit (K.endedOf 1 collect-Slots-sound-kinds.ps collect-Slots-sound-kinds.r) κs) → collect-Slots-sound-reads.Post κs a r s → collect-Slots-sound-reads.Post κs a r′ s′ → r ≡ r′
+one-collect-Slots-sound κs a r r′ s s′ h h′ = one h h′
 
 pub one-repeater-repeat : (κs : Lifetimes.Lfts 1) (a : World.ArgsD repeater-repeat.signature κs) (r r′ : World.ResD repeater-repeat.signature κs)
     (s s′ : Clauses.AtExit (K.endedOf 1 repeater-repeat-kinds.ps repeater-repeat-kinds.r) κs) → repeater-repeat-reads.Post κs a r s → repeater-repeat-reads.Post κs a r′ s′

@@ -9,10 +9,11 @@ use Rattle.packet.specs.Wire.{fifthOf, totalOf, partOf, packetAt, transmissionO
 use Rattle.packet.proofs.Stands.{at-length, packet-stands, count-stands}
 use Rattle.reader.specs.Read.{readOf}
 use Rattle.reader.specs.declared.read.Reading.the-variants.{Reset as ResetRead, Refused as Unread}
-use Rattle.collect.specs.Slots.{begunOf, noneOf}
+use Rattle.collect.specs.Slots.{begunOf}
 use Rattle.machine.specs.Step.{readyOf, startedOf}
 use Rattle.service.specs.Delivery.{Awaits, Delivered, afterPackets, answerTo}
-use Rattle.sign.specs.Join.{staysOf}
+use Rattle.hear.specs.Join.{bodyIn}
+use Rattle.sign.specs.Join.{signOf, staysOf}
 use Rattle.sign.specs.Receive.{receiveOf}
 use Rattle.sign.specs.Reset.{freshOf, powerOn, startSettings}
 use Rattle.sign.specs.declared.Sign.{Sign}
@@ -61,7 +62,11 @@ ours-delivers s good mid id body known some most waits =
       stored = λ p more. ap (λ (r : Received). r .outcome) (at p (omega arith)) ∙ ap (λ (r : Received). r .outcome) (d .stored p more);
       released = λ p e. ap (λ (r : Received). r .outcome) (at p (omega arith)) ∙ d .released p e;
       same = λ p e. ap (λ (r : Received). take (r .len) (r .body)) (at p (omega arith)) ∙ d .same p e;
+      last = λ p e. ap (λ (r : Received). r .sign .last) (at p (omega arith)) ∙ d .last p e;
+      none = λ p e. ap (λ (r : Received). r .sign .slots) (at p (omega arith)) ∙ d .none p e;
+      holds = λ p e endless q. ap (λ (r : Received). r .sign .room) (at p (omega arith)) ∙ d .holds p e endless q;
       runs = λ p e endless q. ap (λ (r : Received). r .sign .run) (at p (omega arith)) ∙ d .runs p e endless q;
+      empty = λ p e n place q. ap (λ (r : Received). r .sign .room) (at p (omega arith)) ∙ d .empty p e n place q;
       rests = λ p e n place q. ap (λ (r : Received). r .sign .run) (at p (omega arith)) ∙ d .rests p e n place q;
     }
   where
@@ -90,7 +95,7 @@ nothing-read = refl
 
 -- a sign that shows a line
 showing : Sign
-showing = record { last = 5; collection = noneOf; run = startedOf hi (startSettings 16 0) }
+showing = signOf 5 (bodyIn hi) (startedOf (length hi) (startSettings 16 0))
 
 pub starting-over-fails : LetsRun startingOver → ⊥
 unfolding showing freshOf readyOf startedOf staysOf

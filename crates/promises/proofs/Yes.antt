@@ -43,14 +43,14 @@ use Rattle.machine.specs.declared.Stepped.{Stepped as RunStepped}
 use Rattle.reckon.specs.Forecast.{talliesOf, settingsAt, outOfRange, byVerdict, forecastOf}
 use Rattle.reckon.specs.declared.reckon.Foretold.the-variants.{Refused as NoForecast}
 use Rattle.totals.specs.declared.Totals.{Totals}
-use Rattle.collect.specs.Slots.{heldOf, sameOf, begunOf, storedOf}
-use Rattle.collect.specs.declared.Collection.{Collection}
+use Rattle.room.specs.Room.{roomOf}
+use Rattle.collect.specs.Slots.{Collection, heldOf, sameOf, begunOf, storedOf}
 use Rattle.hear.specs.Join.{slotOf, beginsOf}
 use Rattle.sign.specs.Join.{staysOf, releaseOf, releasedOf, storesOf, placedOf, goesOn, joinOf}
 use Rattle.sign.specs.Receive.{heardOf as heardBy, receiveOf}
 use Rattle.sign.specs.Reset.{resetOf, clearedOf}
-use Rattle.sign.specs.Sound.{soundOf}
-use Rattle.sign.specs.Step.{runsOf, stepOf}
+use Rattle.sign.specs.Sound.{collectedOf, soundOf}
+use Rattle.sign.specs.Step.{steppedOf, stepOf}
 use Rattle.sign.specs.declared.Sign.{Sign}
 use Rattle.sign.specs.declared.Received.{Received}
 use Rattle.sign.specs.declared.Cleared.{Cleared}
@@ -169,14 +169,15 @@ forecast-no b pace each n q e = go (outOfRange pace each) e
     by Endless t w k = let z : _≡_ {A = ℕ} 0 1 = cc in absurd (omega arith)
     by (NoProgram m r) t w k = let a : m ≡ n = cc in let h = judge-no b m r w in omega arith
 
-    go : (t : Bool) → when t (NoForecast 17 0) (byVerdict (judgeOf b) (talliesOf (startedOf b (settingsAt pace each)))) ≡ NoForecast n q → 0 < n
+    go : (t : Bool) → when t (NoForecast 17 0) (byVerdict (judgeOf b) (talliesOf (roomOf b) (startedOf (length b) (settingsAt pace each)))) ≡ NoForecast n q → 0 < n
     go true w = let z : 17 ≡ n = cc in omega arith
     go false w = by (judgeOf b) _ refl w
 
 -- a refused step, and a refused reset, are 16
-run-no : (r : Run) (n : ℕ) → runStep r .answer ≡ NoStep n → 0 < n
+run-no : (room : List ℕ) (r : Run) (n : ℕ) → runStep room r .answer ≡ NoStep n → 0 < n
 unfolding runStep
-run-no r n e = go (runSound r) (eqb (r .len) 0) (runOf r (nextOf (get (bodyOf r)) (r .len) (stateOf r))) (saidOf (get (bodyOf r)) (stateOf r)) e
+run-no room r n e =
+    go (runSound room r) (eqb (r .len) 0) (runOf r (nextOf (get (bodyOf room r)) (r .len) (stateOf r))) (saidOf (get (bodyOf room r)) (stateOf r)) e
   where
     says : (x : Said) → sayOf x ≡ NoStep n → 0 < n
     says (did x) w = let z : _≡_ {A = ℕ} 0 1 = cc in absurd (omega arith)
@@ -195,10 +196,10 @@ unfolding stepOf
 step-no s n e = go (soundOf s) e
   where
     whether : Bool → Stepped
-    whether t = when t (record { sign = runsOf s (runStep (s .run) .run); answer = runStep (s .run) .answer }) (record { sign = s; answer = NoStep 16 })
+    whether t = when t (steppedOf s (runStep (s .room) (s .run))) (record { sign = s; answer = NoStep 16 })
 
     go : (t : Bool) → whether t .answer ≡ NoStep n → 0 < n
-    go true w = run-no (s .run) n w
+    go true w = run-no (s .room) (s .run) n w
     go false w = let z : 16 ≡ n = cc in omega arith
 
 pub reset-no : (s : Sign) (n : ℕ) → clearedOf s .outcome ≡ Refused n → 0 < n
@@ -233,16 +234,16 @@ stays-no s o = refl
 
 join-no : (s : Sign) (id total position n : ℕ) (part : List ℕ) → joinOf s id total position part .outcome ≡ Refused n → 0 < n
 unfolding joinOf staysOf
-join-no s id total position n part e = go (eqb id (s .last)) (eqb (s .run .len) 0) (beginsOf (s .collection) id) e
+join-no s id total position n part e = go (eqb id (s .last)) (eqb (s .run .len) 0) (beginsOf (collectedOf s) id) e
   where
     on : (t u v : Bool) → Received
     on t u v =
         when (not t) (staysOf s (Refused 13))
-        (when u (placedOf s (s .collection) position part) (when v (staysOf s Repeat) (staysOf s (Refused 13))))
+        (when u (placedOf s (collectedOf s) position part) (when v (staysOf s Repeat) (staysOf s (Refused 13))))
 
     goes : (t u v : Bool) → on t u v .outcome ≡ Refused n → 0 < n
     goes false u v w = let z : 13 ≡ n = cc in omega arith
-    goes true true v w = placed-no s (s .collection) position n part w
+    goes true true v w = placed-no s (collectedOf s) position n part w
     goes true false true w = let z : _≡_ {A = ℕ} 0 1 = cc in absurd (omega arith)
     goes true false false w = let z : 13 ≡ n = cc in omega arith
 
@@ -256,7 +257,7 @@ join-no s id total position n part e = go (eqb id (s .last)) (eqb (s .run .len) 
     go false false v w = let z : 12 ≡ n = cc in omega arith
     go false true true w = placed-no s (begunOf id total) position n part w
     go false true false w =
-        goes (eqb (s .collection .total) total) (eqb (getD (s .collection .lens) position 0) 0) (sameOf (slotOf (s .collection) position) part) w
+        goes (eqb (s .slots .total) total) (eqb (getD (s .slots .lens) position 0) 0) (sameOf (slotOf (collectedOf s) position) part) w
 
 -- bytes that are refused have a number
 pub receive-no : (s : Sign) (mid : ℕ) (b : List ℕ) (n : ℕ) → receiveOf s mid b .outcome ≡ Refused n → 0 < n

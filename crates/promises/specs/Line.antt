@@ -22,6 +22,7 @@ use Rattle.course.proofs.Programs.{treeIn}
 use Rattle.reckon.specs.Forecast.{forecastOf}
 use Rattle.machine.specs.Line.{lineOf, performed}
 use Rattle.machine.specs.Step.{stepOf, startedOf}
+use Rattle.room.specs.Room.{roomOf}
 use Rattle.totals.specs.Totals.{totalsOf}
 use Rattle.machine.specs.declared.Answer.{Answer}
 use Rattle.machine.specs.declared.Answer.the-variants.{Idle}
@@ -63,19 +64,24 @@ pub record LineRuns {R : Type 0} (m : Machine R) : Type 0 where
   pub finite : (b : List ℕ) (σ : Settings) → soundOf σ ≡ true → judgeOf b ≡ Finite → Runs m b σ
   pub endless : (b : List ℕ) (σ : Settings) → soundOf σ ≡ true → judgeOf b ≡ Endless → Goes m b σ
 
+-- a run of ours, with the room that its body stands in
+pub record Held : Type 0 where
+  pub room : List ℕ
+  pub run : Run
+
 -- our steps beside any forecast
-abbrev pub foretelling : (List ℕ → ℕ → ℕ → Foretold) → Machine Run
+abbrev pub foretelling : (List ℕ → ℕ → ℕ → Foretold) → Machine Held
 foretelling f =
     record {
-      start = startedOf;
-      step = λ r. stepOf r .run;
-      says = λ r. stepOf r .answer;
-      ready = λ r. eqb (r .len) 0;
+      start = λ b σ. record { room = roomOf b; run = startedOf (length b) σ };
+      step = λ h. record { room = h .room; run = stepOf (h .room) (h .run) .run };
+      says = λ h. stepOf (h .room) (h .run) .answer;
+      ready = λ h. eqb (h .run .len) 0;
       forecast = f;
     }
 
 -- ours
-abbrev pub ours : Machine Run
+abbrev pub ours : Machine Held
 ours = foretelling forecastOf
 
 -- one that is Ready at once, beside a forecast of nothing
@@ -89,7 +95,7 @@ madeUp (Ends t) = Ends (totalsOf (t .steps .0) (suc (t .scans .0)) (t .millis .0
 madeUp Never = Never
 madeUp (RefusedForecast n p) = RefusedForecast n p
 
-abbrev pub inventing : Machine Run
+abbrev pub inventing : Machine Held
 inventing = foretelling (λ b pace each. madeUp (forecastOf b pace each))
 
 -- one that performs its first pass and then only counts: it holds what is left to say and how many steps are left

@@ -13,6 +13,8 @@ use Rattle.reader.specs.declared.read.Reading.the-variants.{Reset as ResetRead}
 use Rattle.judge.specs.Verdict.{judgeOf}
 use Rattle.grammar.specs.Grammar.{acceptedAs}
 use Rattle.judge.specs.declared.Verdict.the-variants.{Refused as NoProgram}
+use Rattle.room.specs.Room.{roomOf}
+use Rattle.collect.specs.Slots.{slotsIn, noneOf}
 use Rattle.machine.specs.Step.{startedOf}
 use Rattle.machine.specs.declared.Answer.the-variants.{Refused as Stopped}
 use Rattle.service.specs.Delivery.{Awaits}
@@ -49,7 +51,7 @@ pub record NoTrip (c : Calls) : Type 0 where
 abbrev pub cutOf : List ℕ → ℕ → List ℕ
 cutOf t p = take (getD (drop (21 * p) t) 2 0) (drop (21 * p) t)
 
--- the record behind the first packets of a body's transmission, and what the packet at a position is answered behind those before it
+-- the record after the first packets of a body's transmission, and what the packet at a position is answered after those before it
 abbrev pub behind : Calls → Sign → ℕ → ℕ → List ℕ → ℕ → Sign
 behind c s mid id body zero = s
 behind c s mid id body (suc n) = c .receive (behind c s mid id body n) mid (cutOf (transmissionOf mid id body) n) .sign
@@ -57,20 +59,26 @@ behind c s mid id body (suc n) = c .receive (behind c s mid id body n) mid (cutO
 abbrev pub told : Calls → Sign → ℕ → ℕ → List ℕ → ℕ → Received
 told c s mid id body p = c .receive (behind c s mid id body p) mid (cutOf (transmissionOf mid id body) p)
 
--- a body delivered: released by its last packet and by no other, with the same bytes; a program then runs from its first command
+-- a body delivered: released by its last packet and by no other, with the same bytes, and then nothing is collected; a program is in the
+-- room and runs from its first command, and with another body the room is empty
 pub record Gets (c : Calls) (s : Sign) (mid id : ℕ) (body : List ℕ) : Type 0 where
   pub stored : (p : ℕ) → suc p < totalOf body → told c s mid id body p .outcome ≡ Stored
   pub released : (p : ℕ) → suc p ≡ totalOf body → told c s mid id body p .outcome ≡ Released (judgeOf body)
   pub same : (p : ℕ) → suc p ≡ totalOf body → take (told c s mid id body p .len) (told c s mid id body p .body) ≡ body
+  pub last : (p : ℕ) → suc p ≡ totalOf body → told c s mid id body p .sign .last ≡ id
+  pub none : (p : ℕ) → suc p ≡ totalOf body → told c s mid id body p .sign .slots ≡ slotsIn noneOf
+  pub holds : (p : ℕ) → suc p ≡ totalOf body → (endless : Bool) → judgeOf body ≡ acceptedAs endless
+      → told c s mid id body p .sign .room ≡ roomOf body
   pub runs : (p : ℕ) → suc p ≡ totalOf body → (endless : Bool) → judgeOf body ≡ acceptedAs endless
-      → told c s mid id body p .sign .run ≡ startedOf body (s .run .settings)
+      → told c s mid id body p .sign .run ≡ startedOf (length body) (s .run .settings)
+  pub empty : (p : ℕ) → suc p ≡ totalOf body → (n place : ℕ) → judgeOf body ≡ NoProgram n place → told c s mid id body p .sign .room ≡ replicate 84 0
   pub rests : (p : ℕ) → suc p ≡ totalOf body → (n place : ℕ) → judgeOf body ≡ NoProgram n place → told c s mid id body p .sign .run ≡ s .run
 
 abbrev pub Delivers : Calls → Type 0
 Delivers c =
     (s : Sign) → Good s → (mid id : ℕ) (body : List ℕ) → id ≤ 0x3F → 1 ≤ length body → length body ≤ 84 → Awaits s id → Gets c s mid id body
 
--- the driver: while a line runs, bytes that are no reset for this MID leave the record
+-- the driver: while a line runs, bytes that are no reset for this MID leave the record, the running body in its room too
 abbrev pub LetsRun : Calls → Type 0
 LetsRun c = (s : Sign) (mid : ℕ) (b : List ℕ) → (s .run .len ≡ 0 → ⊥) → (readOf mid b ≡ ResetRead → ⊥) → c .receive s mid b .sign ≡ s
 

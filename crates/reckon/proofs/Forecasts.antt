@@ -19,6 +19,7 @@ use Rattle.course.specs.Price.{sumBy, ones, scans, millis, priceOf}
 use Rattle.course.proofs.Programs.{treeIn}
 use Rattle.course.proofs.Theorem.{finite-ends}
 use Rattle.machine.specs.Line.{lineOf, performed}
+use Rattle.room.specs.Room.{roomOf}
 use Rattle.machine.specs.Step.{stepOf, afterRun, saidRun, startedOf}
 use Rattle.reckon.specs.Forecast.{measured, tally, mostSteps, talliesOf, settingsAt, outOfRange, byVerdict, forecastOf}
 use Rattle.reckon.specs.Forecast.{pricesOf}
@@ -32,32 +33,32 @@ use Rattle.machine.proofs.Ranges.{sounds}
 use Rattle.totals.proofs.Sums.{totals-are}
 
 -- a run that performs these commands and is then Ready
-tally-is : (f : Performed → ℕ) (fuel : ℕ) (xs : List Performed) (r : Run) → length xs ≤ fuel → saidRun (length xs) r ≡ performed xs
-    → ((k : ℕ) → k < length xs → BusyRun (afterRun k r))
-    → afterRun (length xs) r .len ≡ 0
-    → tally f fuel r ≡ sumBy f xs
+tally-is : (f : Performed → ℕ) (fuel : ℕ) (xs : List Performed) (room : List ℕ) (r : Run) → length xs ≤ fuel → saidRun (length xs) room r ≡ performed xs
+    → ((k : ℕ) → k < length xs → BusyRun (afterRun k room r))
+    → afterRun (length xs) room r .len ≡ 0
+    → tally f fuel room r ≡ sumBy f xs
 unfolding tally
-tally-is f zero [] r most said busy done = refl
-tally-is f zero (x ∷ xs) r most said busy done = absurd (omega arith)
-tally-is f (suc fuel) [] r most said busy done = when-true (eqb (r .len) 0) _ _ (eq-eqb (r .len) 0 done)
-tally-is f (suc fuel) (x ∷ xs) r most said busy done =
-    let now : stepOf r .answer ≡ Did x = cc in
-    let rest : saidRun (length xs) (stepOf r .run) ≡ performed xs = cc in
+tally-is f zero [] room r most said busy done = refl
+tally-is f zero (x ∷ xs) room r most said busy done = absurd (omega arith)
+tally-is f (suc fuel) [] room r most said busy done = when-true (eqb (r .len) 0) _ _ (eq-eqb (r .len) 0 done)
+tally-is f (suc fuel) (x ∷ xs) room r most said busy done =
+    let now : stepOf room r .answer ≡ Did x = cc in
+    let rest : saidRun (length xs) room (stepOf room r .run) ≡ performed xs = cc in
     when-false (eqb (r .len) 0) _ _ (ne-eqb (r .len) 0 (busy 0 (omega arith)))
-    ∙ ap (λ (a : Answer). measured f a + tally f fuel (stepOf r .run)) now
-    ∙ ap (λ (n : ℕ). f x + n) (tally-is f fuel xs (stepOf r .run) (omega arith) rest (λ k h. busy (suc k) (omega arith)) done)
+    ∙ ap (λ (a : Answer). measured f a + tally f fuel room (stepOf room r .run)) now
+    ∙ ap (λ (n : ℕ). f x + n) (tally-is f fuel xs room (stepOf room r .run) (omega arith) rest (λ k h. busy (suc k) (omega arith)) done)
 
 -- each sum until Ready is the price
 pub tally-price : (b : List ℕ) → judgeOf b ≡ Finite → (σ : Settings) → settingsSound σ ≡ true → (f : Performed → ℕ)
-    → tally f mostSteps (startedOf b σ) ≡ priceOf f (treeIn b .block) σ
+    → tally f mostSteps (roomOf b) (startedOf (length b) σ) ≡ priceOf f (treeIn b .block) σ
 tally-price b e σ set f =
     let l = line-ends b e σ set in
     let xs = lineOf b σ in
-    tally-is f mostSteps xs (startedOf b σ) (l .most) (l .performed) (l .busy-before) (ap (λ (r : Run). r .len) (l .ready-then) ∙ ready-none _)
+    tally-is f mostSteps xs (roomOf b) (startedOf (length b) σ) (l .most) (l .performed) (l .busy-before) (ap (λ (r : Run). r .len) (l .ready-then) ∙ ready-none _)
     ∙ finite-ends b e σ .adds-up f
 
 pub tallies-price : (b : List ℕ) → judgeOf b ≡ Finite → (σ : Settings) → settingsSound σ ≡ true
-    → pricesOf (treeIn b .block) σ ≡ talliesOf (startedOf b σ)
+    → pricesOf (treeIn b .block) σ ≡ talliesOf (roomOf b) (startedOf (length b) σ)
 unfolding talliesOf
 tallies-price b e σ set =
     totals-are _ _ _ _ _ _ (ap capped (sym (tally-price b e σ set ones))) (ap capped (sym (tally-price b e σ set scans)))
@@ -68,11 +69,11 @@ module _ (b : List ℕ) (pace each : ℕ) (h1 : 1 ≤ pace) (h2 : pace ≤ 20) (
   ranged = ap not (and-true _ _ (within-true 1 pace 20 h1 h2) (within-true 1 each 6 h3 h4))
 
   -- a pace and scans in range leave the answer to the body
-  pub in-range : (v : Verdict) → judgeOf b ≡ v → forecastOf b pace each ≡ byVerdict v (talliesOf (startedOf b (settingsAt pace each)))
+  pub in-range : (v : Verdict) → judgeOf b ≡ v → forecastOf b pace each ≡ byVerdict v (talliesOf (roomOf b) (startedOf (length b) (settingsAt pace each)))
   unfolding forecastOf
   in-range v e =
-      when-false (outOfRange pace each) (Refused 17 0) (byVerdict (judgeOf b) (talliesOf (startedOf b (settingsAt pace each)))) ranged
-      ∙ ap (λ (x : Verdict). byVerdict x (talliesOf (startedOf b (settingsAt pace each)))) e
+      when-false (outOfRange pace each) (Refused 17 0) (byVerdict (judgeOf b) (talliesOf (roomOf b) (startedOf (length b) (settingsAt pace each)))) ranged
+      ∙ ap (λ (x : Verdict). byVerdict x (talliesOf (roomOf b) (startedOf (length b) (settingsAt pace each)))) e
 
   pub settings-sound : settingsSound (settingsAt pace each) ≡ true
-  settings-sound = sounds pace each false 16 0 h1 h2 h3 h4 (omega arith, omega arith) refl
+  settings-sound = sounds pace each 0 16 0 h1 h2 h3 h4 (omega arith) (omega arith, omega arith) refl

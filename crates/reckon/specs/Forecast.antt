@@ -3,8 +3,9 @@
 -- scan setting out of range, before 21 to 28".
 use Prim.Native.Nat.{ℕ, zero, suc, _+_}
 use mathlib.Core.List.{List}
-use mathlib.Core.Bool.{Bool, false, not}
+use mathlib.Core.Bool.{Bool, not}
 use lib.Dec.{eqb}
+use lib.ListN.{length}
 use Rattle.basis.specs.Choice.{when, _and_, within}
 use Rattle.units.specs.Units.{capped}
 use Rattle.perform.specs.declared.settings.Settings.{Settings}
@@ -17,6 +18,7 @@ use Rattle.judge.specs.declared.Verdict.the-variants.{Finite, Endless, Refused}
 use Rattle.course.specs.Price.{ones, scans, millis, priceOf}
 use Rattle.course.specs.Tree.{Block}
 use Rattle.course.proofs.Programs.{treeIn}
+use Rattle.room.specs.Room.{roomOf}
 use Rattle.machine.specs.Step.{stepOf, startedOf}
 use Rattle.totals.specs.Totals.{totalsOf}
 use Rattle.machine.specs.declared.Answer.{Answer}
@@ -32,22 +34,23 @@ measured f (Did x) = f x
 measured f Idle = 0
 measured f (RefusedStep n) = 0
 
--- the sum of a measure over the steps of a run until it is Ready, within so many steps
-unfoldable pub tally : (Performed → ℕ) → ℕ → Run → ℕ
-tally f zero r = 0
-tally f (suc k) r = when (eqb (r .len) 0) 0 (measured f (stepOf r .answer) + tally f k (stepOf r .run))
+-- the sum of a measure over the steps of a run until it is Ready, within so many steps, with its body at the front of a room
+unfoldable pub tally : (Performed → ℕ) → ℕ → List ℕ → Run → ℕ
+tally f zero room r = 0
+tally f (suc k) room r = when (eqb (r .len) 0) 0 (measured f (stepOf room r .answer) + tally f k room (stepOf room r .run))
 
 -- no program that ends takes more steps
 abbrev pub mostSteps : ℕ
 mostSteps = 3961
 
 -- the totals of a run until it is Ready, as the units hold them
-unfoldable pub talliesOf : Run → Totals
-talliesOf r = totalsOf (capped (tally ones mostSteps r)) (capped (tally scans mostSteps r)) (capped (tally millis mostSteps r))
+unfoldable pub talliesOf : List ℕ → Run → Totals
+talliesOf room r =
+    totalsOf (capped (tally ones mostSteps room r)) (capped (tally scans mostSteps room r)) (capped (tally millis mostSteps room r))
 
 -- the caller's pace and scans; what else a sign is set to costs nothing
 abbrev pub settingsAt : ℕ → ℕ → Settings
-settingsAt pace each = record { pace = pace; scans = each; sink = false; dim = 16; bright = 0 }
+settingsAt pace each = record { pace = pace; scans = each; sink = 0; dim = 16; bright = 0 }
 
 abbrev pub outOfRange : ℕ → ℕ → Bool
 outOfRange pace each = not (within 1 pace 20 and within 1 each 6)
@@ -59,7 +62,8 @@ byVerdict (Refused n p) t = RefusedForecast n p
 
 unfoldable pub forecastOf : List ℕ → ℕ → ℕ → Foretold
 forecastOf b pace each =
-    when (outOfRange pace each) (RefusedForecast 17 0) (byVerdict (judgeOf b) (talliesOf (startedOf b (settingsAt pace each))))
+    when (outOfRange pace each) (RefusedForecast 17 0)
+    (byVerdict (judgeOf b) (talliesOf (roomOf b) (startedOf (length b) (settingsAt pace each))))
 
 -- what a block costs, in the three units
 abbrev pub pricesOf : Block → Settings → Totals

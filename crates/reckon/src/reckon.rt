@@ -152,7 +152,7 @@ pub fn forecast(body: &[u8], pace: u8, scans: u8) -> Foretold
             let settings = Settings {
                 pace,
                 scans,
-                sink: false,
+                sink: 0,
                 dim: 16,
                 bright: 0,
             };

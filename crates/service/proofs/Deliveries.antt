@@ -17,16 +17,18 @@ use Rattle.packet.proofs.Parts.{part-length}
 use Rattle.packet.proofs.Stands.{part-stands}
 use Rattle.reader.proofs.ReadBack.{body-reads}
 use Rattle.grammar.specs.Grammar.{acceptedAs}
+use Rattle.judge.specs.Verdict.{judgeOf}
 use Rattle.judge.specs.declared.Verdict.{Verdict}
+use Rattle.judge.specs.declared.Verdict.the-variants.{Finite, Endless, Refused as NoProgram}
 use Rattle.machine.specs.Step.{startedOf}
-use Rattle.collect.specs.Slots.{heldOf, slotsOf, joinedOf, begunOf, storedOf}
-use Rattle.collect.specs.declared.Collection.{Collection}
+use Rattle.room.specs.Room.{roomOf}
+use Rattle.collect.specs.Slots.{Collection, slotsIn, heldOf, slotsOf, joinedOf, begunOf, noneOf, storedOf}
 use Rattle.collect.proofs.Joined.{blank}
 use Rattle.collect.proofs.Kept.{held-more}
 use Rattle.collect.proofs.Sounds.{begun-slots}
-use Rattle.sign.specs.Sound.{soundOf}
-use Rattle.hear.specs.Join.{beginsOf, Right, Open, Whole}
-use Rattle.sign.specs.Join.{staysOf, startsOf, storesOf, releaseOf, releasedOf, countedOf, placedOf, joinOf}
+use Rattle.sign.specs.Sound.{collectedOf, soundOf}
+use Rattle.hear.specs.Join.{beginsOf, bodyIn, Right, Open, Whole}
+use Rattle.sign.specs.Join.{signOf, staysOf, startsOf, storesOf, releaseOf, releasedOf, countedOf, placedOf, joinOf}
 use Rattle.sign.specs.Receive.{heardOf, receiveOf}
 use Rattle.service.specs.Delivery.{afterPackets, answerTo, Awaits, Delivered}
 use Rattle.sign.specs.declared.Sign.{Sign}
@@ -36,7 +38,7 @@ use Rattle.hear.proofs.Places.{stored-slots, whole-body}
 use Rattle.sign.proofs.Joining.{sound-receives}
 use Rattle.service.proofs.Keeps.{Good, receive-good}
 
--- the collection behind the first packets of a body
+-- the collection after the first packets of a body
 abbrev upTo : ℕ → List ℕ → ℕ → Collection
 upTo id body zero = begunOf id (totalOf body)
 upTo id body (suc n) = storedOf (upTo id body n) n (partOf body n)
@@ -129,9 +131,9 @@ module _ (id : ℕ) (body : List ℕ) (some : 1 ≤ length body) (most : length 
 
 -- a record with another collection
 abbrev withOf : Sign → Collection → Sign
-withOf s c = record { last = s .last; collection = c; run = s .run }
+withOf s c = signOf (s .last) c (s .run)
 
--- the record behind the first packets, short of the last
+-- the record after the first packets, short of the last
 abbrev stateAt : Sign → ℕ → List ℕ → ℕ → Sign
 stateAt s id body zero = s
 stateAt s id body (suc k) = withOf s (upTo id body (suc k))
@@ -152,7 +154,7 @@ module _ (s : Sign) (good : Good s) (mid id : ℕ) (body : List ℕ) (known : id
   begins =
       when-false (eqb id (s .last)) _ _ (ne-eqb id (s .last) (waits .other))
       ∙ when-false (not (eqb (s .run .len) 0)) _ _ (ap not (eq-eqb (s .run .len) 0 (waits .ready)))
-      ∙ when-true (beginsOf (s .collection) id) _ _ (waits .begins)
+      ∙ when-true (beginsOf (collectedOf s) id) _ _ (waits .begins)
 
   -- the others go on
   goes : (k : ℕ) (c : Collection) → k < totalOf body → Up id body k c
@@ -235,20 +237,47 @@ module _ (s : Sign) (good : Good s) (mid id : ℕ) (body : List ℕ) (known : id
       answers (suc k) (omega arith) (after (suc k) (omega arith))
       ∙ releases (stateAt s id body (suc k)) (suc k) (upTo id body (suc (suc k))) last (up id body some most (suc (suc k)) (omega arith)) (last-len id body some most (suc k) (omega arith))
 
+  -- the record that a body of a verdict leaves
+  abbrev left : Verdict → Sign
+  left v = startsOf v (signOf id (bodyIn body) (startedOf (length body) (s .run .settings))) (signOf id noneOf (s .run))
+
+  delivers-left : (k : ℕ) (v : Verdict) → suc k ≡ totalOf body → judgeOf body ≡ v → answerTo s mid id body k .sign ≡ left v
+  unfolding releaseOf
+  delivers-left k v last e = ap (λ (r : Received). r .sign) (delivers-released k last) ∙ ap left e
+
+  left-accepted : (endless : Bool) → left (acceptedAs endless) ≡ signOf id (bodyIn body) (startedOf (length body) (s .run .settings))
+  left-accepted true = refl
+  left-accepted false = refl
+
+  -- whatever the verdict, the ID is last and nothing is collected
+  left-last : (v : Verdict) → left v .last ≡ id
+  left-last Finite = refl
+  left-last Endless = refl
+  left-last (NoProgram n place) = refl
+
+  left-none : (v : Verdict) → left v .slots ≡ slotsIn noneOf
+  unfolding begunOf
+  left-none Finite = refl
+  left-none Endless = refl
+  left-none (NoProgram n place) = refl
+
+  -- the empty room
+  none-room : noneOf .room ≡ blank 84
+  unfolding begunOf
+  none-room = refl
+
   -- demand 2
   pub delivers : Delivered s mid id body
-  unfolding releaseOf
+  unfolding releaseOf roomOf
   delivers =
       record {
         stored = delivers-stored;
         released = λ p e. ap (λ (r : Received). r .outcome) (delivers-released p e);
         same = λ p e. ap (λ (r : Received). take (r .len) (r .body)) (delivers-released p e) ∙ take-laid body (blank 84);
-        last = λ p e. ap (λ (r : Received). r .sign .last) (delivers-released p e);
-        none = λ p e. ap (λ (r : Received). r .sign .collection) (delivers-released p e);
-        runs = λ p e endless q. ap (λ (r : Received). r .sign .run) (delivers-released p e) ∙ ap (λ (v : Verdict). startsOf v (startedOf body (s .run .settings)) (s .run)) q ∙ accepted-runs endless;
-        rests = λ p e n place q. ap (λ (r : Received). r .sign .run) (delivers-released p e) ∙ ap (λ (v : Verdict). startsOf v (startedOf body (s .run .settings)) (s .run)) q;
+        last = λ p e. ap (λ (t : Sign). t .last) (delivers-left p (judgeOf body) e refl) ∙ left-last (judgeOf body);
+        none = λ p e. ap (λ (t : Sign). t .slots) (delivers-left p (judgeOf body) e refl) ∙ left-none (judgeOf body);
+        holds = λ p e endless q. ap (λ (t : Sign). t .room) (delivers-left p (acceptedAs endless) e q ∙ left-accepted endless);
+        runs = λ p e endless q. ap (λ (t : Sign). t .run) (delivers-left p (acceptedAs endless) e q ∙ left-accepted endless);
+        empty = λ p e n place q. ap (λ (t : Sign). t .room) (delivers-left p (NoProgram n place) e q) ∙ none-room;
+        rests = λ p e n place q. ap (λ (t : Sign). t .run) (delivers-left p (NoProgram n place) e q);
       }
-    where
-      accepted-runs : (endless : Bool) → startsOf (acceptedAs endless) (startedOf body (s .run .settings)) (s .run) ≡ startedOf body (s .run .settings)
-      accepted-runs true = refl
-      accepted-runs false = refl

@@ -1,5 +1,5 @@
--- A query, a repeat and a refusal leave the record (demand 1), and a Busy record is left by all bytes but a reset for this MID: so
--- what comes between the steps of a running line changes none of them.
+-- A query, a repeat and a refusal leave the record (demand 1), and a Busy record is left by all bytes but a reset for this MID, with
+-- the running body in its room: so what comes between the steps of a running line changes none of them.
 use Prim.Native.Nat.{ℕ}
 use mathlib.Core.List.{List, [], _∷_}
 use mathlib.Core.Bool.{Bool, true, false, not}
@@ -9,8 +9,7 @@ use lib.Dec.{eqb, leb}
 use lib.ListN.{getD, take, drop}
 use borrow.Author.Tests.{ne-eqb, eqb-true, eqb-false}
 use Rattle.basis.specs.Choice.{when, _or_}
-use Rattle.collect.specs.Slots.{heldOf, begunOf, sameOf, storedOf}
-use Rattle.collect.specs.declared.Collection.{Collection}
+use Rattle.collect.specs.Slots.{Collection, heldOf, begunOf, sameOf, storedOf}
 use Rattle.reader.specs.Read.{readOf}
 use Rattle.reader.specs.declared.read.Reading.{Reading}
 use Rattle.reader.specs.declared.read.Reading.the-variants.{Query as QueryRead, Reset as ResetRead, Normal, Refused as Unread}
@@ -20,7 +19,7 @@ use Rattle.machine.specs.Step.{framesOf, sayOf, stepOf as runStep}
 use Rattle.machine.specs.Sound.{bodyOf, soundOf as runSound}
 use Rattle.machine.specs.declared.Answer.{Answer}
 use Rattle.machine.specs.declared.Answer.the-variants.{Refused as Stopped}
-use Rattle.sign.specs.Sound.{soundOf}
+use Rattle.sign.specs.Sound.{collectedOf, soundOf}
 use Rattle.sign.specs.Reset.{resetOf, clearedOf}
 use Rattle.hear.specs.Join.{slotOf}
 use Rattle.sign.specs.Join.{staysOf, storesOf, releaseOf, releasedOf, placedOf, goesOn, joinOf}
@@ -58,9 +57,9 @@ counted-still s c false e = moved e
 join-still : (s : Sign) (id total position : ℕ) (part : List ℕ) → Still s (joinOf s id total position part)
 unfolding joinOf
 join-still s id total position part =
-    go (eqb id (s .last)) (eqb (s .run .len) 0) (eqb (s .collection .total) 0 or not (eqb (s .collection .id) id)) (eqb (s .collection .total) total)
-    (eqb (getD (s .collection .lens) position 0) 0)
-    (sameOf (slotOf (s .collection) position) part)
+    go (eqb id (s .last)) (eqb (s .run .len) 0) (eqb (s .slots .total) 0 or not (eqb (s .slots .id) id)) (eqb (s .slots .total) total)
+    (eqb (getD (s .slots .lens) position 0) 0)
+    (sameOf (slotOf (collectedOf s) position) part)
   where
     placed-still : (c : Collection) → Still s (placedOf s c position part)
     placed-still c = counted-still s (storedOf c position part) (leb (storedOf c position part .total) (heldOf (storedOf c position part .lens)))
@@ -70,12 +69,12 @@ join-still s id total position part =
         (when t (staysOf s Repeat)
         (when (not u) (staysOf s (Refused 12))
         (when v (placedOf s (begunOf id total) position part)
-        (when (not w) (staysOf s (Refused 13)) (when x (placedOf s (s .collection) position part) (when y (staysOf s Repeat) (staysOf s (Refused 13))))))))
+        (when (not w) (staysOf s (Refused 13)) (when x (placedOf s (collectedOf s) position part) (when y (staysOf s Repeat) (staysOf s (Refused 13))))))))
     go true u v w x y = stays-still s Repeat
     go false false v w x y = stays-still s (Refused 12)
     go false true true w x y = placed-still (begunOf id total)
     go false true false false x y = stays-still s (Refused 13)
-    go false true false true true y = placed-still (s .collection)
+    go false true false true true y = placed-still (collectedOf s)
     go false true false true false true = stays-still s Repeat
     go false true false true false false = stays-still s (Refused 13)
 
@@ -94,7 +93,7 @@ receive-still s mid b = go (soundOf s) refl
     go true e = subst (λ (r : Received). Still s r) (sym (sound-receives s mid b e)) (heard-still s b (readOf mid b))
     go false e = subst (λ (r : Received). Still s r) (sym (unsound-receives s mid b e)) (stays-still s (Refused 16))
 
--- a Busy record is left by every packet that isn't a reset
+-- a Busy record is left by every packet that isn't a reset, its run and its room too
 busy-join : (s : Sign) (id total position : ℕ) (part : List ℕ) → (s .run .len ≡ 0 → ⊥) → joinOf s id total position part .sign ≡ s
 unfolding joinOf staysOf
 busy-join s id total position part busy = go (eqb id (s .last)) (eqb (s .run .len) 0) (ne-eqb (s .run .len) 0 busy)
@@ -102,7 +101,7 @@ busy-join s id total position part busy = go (eqb id (s .last)) (eqb (s .run .le
     go : (t u : Bool) → u ≡ false
         → (when t (staysOf s Repeat)
         (when (not u) (staysOf s (Refused 12))
-        (when (eqb (s .collection .total) 0 or not (eqb (s .collection .id) id)) (placedOf s (begunOf id total) position part) (goesOn s total position part)))
+        (when (eqb (s .slots .total) 0 or not (eqb (s .slots .id) id)) (placedOf s (begunOf id total) position part) (goesOn s total position part)))
         .sign)
         ≡ s
     go true u e = refl
@@ -147,17 +146,17 @@ step-still s n h = go (soundOf s) refl
     go false e = ap (λ (x : Stepped). x .sign) (unsound-steps s e)
     go true e = ran (eqb (s .run .len) 0) refl
       where
-        run : runSound (s .run) ≡ true
+        run : runSound (s .room) (s .run) ≡ true
         run = sound-parts s e .run
 
-        answer : runStep (s .run) .answer ≡ Stopped n
+        answer : runStep (s .room) (s .run) .answer ≡ Stopped n
         answer = sym (ap (λ (x : Stepped). x .answer) (sound-steps s e)) ∙ h
 
         ran : (t : Bool) → eqb (s .run .len) 0 ≡ t → stepOf s .sign ≡ s
-        ran true q = said idle (sym (ap (λ (x : RunStepped). x .answer) (step-ready (s .run) run (eqb-true (s .run .len) 0 q))) ∙ answer)
+        ran true q = said idle (sym (ap (λ (x : RunStepped). x .answer) (step-ready (s .room) (s .run) run (eqb-true (s .run .len) 0 q))) ∙ answer)
         ran false q =
-            said (saidOf (get (bodyOf (s .run))) (at (s .run .place) (framesOf (s .run .inner)) (s .run .settings)))
-            (sym (ap (λ (x : RunStepped). x .answer) (step-busy (s .run) run (eqb-false (s .run .len) 0 q))) ∙ answer)
+            said (saidOf (get (bodyOf (s .room) (s .run))) (at (s .run .place) (framesOf (s .run .inner)) (s .run .settings)))
+            (sym (ap (λ (x : RunStepped). x .answer) (step-busy (s .room) (s .run) run (eqb-false (s .run .len) 0 q))) ∙ answer)
 
 -- and so does a refused reset
 pub reset-still : (s : Sign) (n : ℕ) → clearedOf s .outcome ≡ Refused n → clearedOf s .sign ≡ s

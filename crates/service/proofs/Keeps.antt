@@ -1,11 +1,11 @@
--- A sound record stays sound (demand 1): of power-on, and behind every receive, step and reset.
-use Prim.Native.Nat.{ℕ, _+_, _*_, _≤_, _<_}
+-- A sound record stays sound (demand 1): of power-on, and after every receive, step and reset.
+use Prim.Native.Nat.{ℕ, _*_, _≤_, _<_}
 use mathlib.Core.List.{List, _++_}
 use mathlib.Core.Bool.{Bool, true, false, not}
 use mathlib.Core.Path.{_≡_, refl, sym, ap, _∙_, subst}
 use native.Mathlib.Omega.{arith}
 use lib.Dec.{eqb, leb}
-use lib.ListN.{length, getD, set, take, drop, length-set, length-append, length-drop}
+use lib.ListN.{length, getD, set, take, drop, replicate, length-set, length-append, length-drop}
 use lib.Seq.{length-take-le}
 use borrow.Author.Tests.{le-leb, leb-false, eqb-true, eqb-false}
 use Rattle.basis.specs.Choice.{when, _and_, _or_, within}
@@ -19,9 +19,13 @@ use Rattle.perform.specs.Settings.{soundOf as settingsSound}
 use Rattle.perform.specs.declared.settings.Settings.{Settings}
 use Rattle.judge.specs.Verdict.{judgeOf}
 use Rattle.judge.specs.declared.Verdict.{Verdict}
+use Rattle.grammar.specs.Grammar.{acceptedAs}
 use Rattle.judge.specs.declared.Verdict.the-variants.{Finite, Endless, Refused as NoProgram}
-use Rattle.collect.specs.Slots.{heldOf, joinedOf, begunOf, sameOf, storedOf}
-use Rattle.collect.specs.declared.Collection.{Collection}
+use Rattle.room.specs.Room.{zerosOf}
+use Rattle.collect.specs.Slots.{Collection, collectionOf, slotsIn, heldOf, joinedOf, begunOf, noneOf, sameOf, storedOf}
+use Rattle.collect.specs.Sound.{nothingOf, soundOf as collectionSound}
+use Rattle.collect.specs.declared.Slots.{Slots}
+use Rattle.collect.proofs.Joined.{all-zeros}
 use Rattle.collect.proofs.Kept.{held-more}
 use Rattle.collect.proofs.Sounds.{sound-collecting, collecting-sound, none-sound}
 use Rattle.machine.specs.Sound.{soundOf as runSound}
@@ -29,32 +33,31 @@ use Rattle.machine.specs.Step.{readyOf, startedOf, stepOf as runStep}
 use Rattle.machine.specs.declared.Run.{Run}
 use Rattle.machine.specs.declared.Answer.the-variants.{Idle}
 use Rattle.machine.specs.declared.Stepped.{Stepped as RunStepped}
-use Rattle.machine.proofs.Sounds.{sound-parts as run-parts}
+use Rattle.machine.proofs.Sounds.{sound-parts as run-parts, ready-anywhere}
 use Rattle.machine.proofs.Keeps.{ready-sound, step-ready, step-keeps}
-use Rattle.machine.proofs.Follows.{started-sound, started-room}
-use Rattle.sign.specs.Sound.{soundOf}
+use Rattle.machine.proofs.Follows.{started-sound, started-room, started-busy}
+use Rattle.sign.specs.Sound.{collectedOf, soundOf}
 use Rattle.sign.specs.Reset.{startSettings, freshOf, resetOf, powerOn, clearedOf}
-use Rattle.hear.specs.Join.{slotOf, Right, Open}
-use Rattle.sign.specs.Join.{staysOf, startsOf, storesOf, releaseOf, releasedOf, placedOf, goesOn, joinOf}
+use Rattle.hear.specs.Join.{slotOf, bodyIn, Right, Open}
+use Rattle.sign.specs.Join.{signOf, staysOf, startsOf, storesOf, releaseOf, releasedOf, placedOf, goesOn, joinOf}
 use Rattle.sign.specs.Receive.{heardOf, receiveOf}
-use Rattle.sign.specs.Step.{runsOf, stepOf}
+use Rattle.sign.specs.Step.{stepOf}
 use Rattle.sign.specs.declared.Sign.{Sign}
 use Rattle.sign.specs.declared.Received.{Received}
 use Rattle.sign.specs.declared.Cleared.{Cleared}
 use Rattle.sign.specs.declared.Stepped.{Stepped}
 use Rattle.hear.specs.declared.Outcome.{Outcome}
 use Rattle.hear.specs.declared.Outcome.the-variants.{Repeat, Query as Asked, Reset as WasReset, Refused as Denied}
-use Rattle.sign.proofs.Sounds.{Parts, sound-parts, parts-sound, busy-none, ready-alone, none-alone}
+use Rattle.sign.proofs.Sounds.{Parts, sound-parts, parts-sound, ready-collects, busy-collects, ready-collected, busy-nothing}
 use Rattle.sign.proofs.Stepping.{sound-steps}
 use Rattle.hear.proofs.Packets.{normal-read}
 use Rattle.hear.proofs.Places.{begun-open, stored-slots}
 use Rattle.sign.proofs.Joining.{goes-open, sound-receives}
 
--- the rooms of a record have their sizes, as the arrays of the code do
+-- lengths and room have their sizes, as the arrays of the code do
 pub record Roomy (s : Sign) : Type 0 where
-  pub lens : length (s .collection .lens) ≡ 6
-  pub room : length (s .collection .room) ≡ 84
-  pub body : length (s .run .body) ≡ 84
+  pub lens : length (s .slots .lens) ≡ 6
+  pub room : length (s .room) ≡ 84
 
 -- sound, with rooms of their sizes
 pub record Good (s : Sign) : Type 0 where
@@ -66,8 +69,8 @@ unfolding freshOf readyOf begunOf
 fresh-good dim bright e =
     record {
       sound = parts-sound (freshOf dim bright)
-          (record { last = refl; run = ready-sound (startSettings dim bright) e; collection = none-sound 0x41; alone = refl });
-      roomy = record { lens = refl; room = refl; body = refl };
+          (record { last = refl; run = ready-sound (replicate 84 0) (startSettings dim bright) e; collects = none-sound 0x41 });
+      roomy = record { lens = refl; room = refl };
     }
 
 -- power-on is sound
@@ -80,36 +83,69 @@ start-sound : (σ : Settings) → settingsSound σ ≡ true → settingsSound (s
 unfolding settingsSound
 start-sound σ e =
     let a = and-parts (within 1 (σ .pace) 20) _ e in
-    and-parts (within 1 (σ .scans) 6) _ (a .1) .1
+    let b = and-parts (within 1 (σ .scans) 6) _ (a .1) in
+    and-parts (leb (σ .sink) 1) _ (b .1) .1
 
 pub reset-good : (s : Sign) → Good s → Good (resetOf s)
 reset-good s g =
     fresh-good (s .run .settings .dim) (s .run .settings .bright)
-    (start-sound (s .run .settings) (run-parts (s .run) (sound-parts s (g .sound) .run) .set))
+    (start-sound (s .run .settings) (run-parts (s .room) (s .run) (sound-parts s (g .sound) .run) .set))
 
--- an accepted body starts a sound run; with another the run stays
-starts-good : (v : Verdict) (b : List ℕ) (r : Run) → judgeOf b ≡ v → runSound r ≡ true → length (r .body) ≡ 84
-    → (runSound (startsOf v (startedOf b (r .settings)) r) ≡ true) × (length (startsOf v (startedOf b (r .settings)) r .body) ≡ 84)
-starts-good Finite b r e sound room =
-    let set = run-parts r sound .set in
-    (started-sound b false e (r .settings) set, started-room b false e (r .settings) set)
-starts-good Endless b r e sound room =
-    let set = run-parts r sound .set in
-    (started-sound b true e (r .settings) set, started-room b true e (r .settings) set)
-starts-good (NoProgram n p) b r e sound room = (sound, room)
+-- where nothing is collected the slots are those of none
+pub nothing-none : (x : Slots) → length (x .lens) ≡ 6 → nothingOf x ≡ true → x ≡ slotsIn noneOf
+unfolding begunOf
+nothing-none x size e =
+    let a = and-parts (eqb (x .id) 0) (eqb (x .total) 0 and zerosOf (x .lens)) e in
+    let b = and-parts (eqb (x .total) 0) (zerosOf (x .lens)) (a .1) in
+    let none : x .lens ≡ replicate 6 0 = all-zeros (x .lens) (b .1) ∙ ap (λ (n : ℕ). replicate n 0) size in
+    ap (λ (n : ℕ). made n (x .total) (x .lens)) (eqb-true (x .id) 0 (a .0))
+    ∙ ap (λ (n : ℕ). made 0 n (x .lens)) (eqb-true (x .total) 0 (b .0))
+    ∙ ap (made 0 0) none
+  where
+    made : ℕ → ℕ → List ℕ → Slots
+    made id total lens = record { id = id; total = total; lens = lens }
+
+-- a record that collects nothing, with a run that is Ready
+none-good : (s : Sign) (id : ℕ) → Good s → s .run .len ≡ 0 → isLast id ≡ true → Good (signOf id noneOf (s .run))
+unfolding begunOf
+none-good s id g ready last =
+    let new = signOf id noneOf (s .run) in
+    record {
+      sound = parts-sound new
+          (record {
+            last = last;
+            run = ready-anywhere (replicate 84 0) (s .room) (s .run) ready ∙ sound-parts s (g .sound) .run;
+            collects = ready-collects new ready ∙ none-sound id;
+          });
+      roomy = record { lens = refl; room = refl };
+    }
+
+-- an accepted body is in the room and starts a sound run
+started-good : (s : Sign) (id : ℕ) (body : List ℕ) (endless : Bool) → judgeOf body ≡ acceptedAs endless → Good s → isLast id ≡ true
+    → Good (signOf id (bodyIn body) (startedOf (length body) (s .run .settings)))
+started-good s id body endless e g last =
+    let σ = s .run .settings in
+    let set = run-parts (s .room) (s .run) (sound-parts s (g .sound) .run) .set in
+    let new = signOf id (bodyIn body) (startedOf (length body) σ) in
+    record {
+      sound = parts-sound new
+          (record { last = last; run = started-sound body endless e σ set; collects = busy-collects new (started-busy body endless e σ set) });
+      roomy = record { lens = refl; room = started-room body endless e σ set };
+    }
 
 -- a release completes an ID of a packet with data
-release-good : (s : Sign) (id : ℕ) (body : List ℕ) → Good s → id ≤ 0x3F → Good (releaseOf s id body .sign)
-unfolding releaseOf begunOf
-release-good s id body g known =
-    let p = sound-parts s (g .sound) in
-    let r = starts-good (judgeOf body) body (s .run) refl (p .run) (g .roomy .body) in
-    let last : isLast id ≡ true = ap (λ (t : Bool). t or eqb id 0x41) (le-leb id 0x3F known) in
-    record {
-      sound = parts-sound (releaseOf s id body .sign)
-          (record { last = last; run = r .0; collection = none-sound id; alone = none-alone (releaseOf s id body .sign) refl });
-      roomy = record { lens = refl; room = refl; body = r .1 };
-    }
+release-good : (s : Sign) (id : ℕ) (body : List ℕ) → Good s → s .run .len ≡ 0 → id ≤ 0x3F → Good (releaseOf s id body .sign)
+unfolding releaseOf
+release-good s id body g ready known = go (judgeOf body) refl
+  where
+    last : isLast id ≡ true
+    last = ap (λ (t : Bool). t or eqb id 0x41) (le-leb id 0x3F known)
+
+    go : (v : Verdict) → judgeOf body ≡ v
+        → Good (startsOf v (signOf id (bodyIn body) (startedOf (length body) (s .run .settings))) (signOf id noneOf (s .run)))
+    go Finite e = started-good s id body false e g last
+    go Endless e = started-good s id body true e g last
+    go (NoProgram n p) e = none-good s id g ready last
 
 -- a packet placed in a Ready record
 module _ (s : Sign) (g : Good s) (ready : s .run .len ≡ 0) (c : Collection) (position : ℕ) (part : List ℕ) (lens : length (c .lens) ≡ 6)
@@ -132,16 +168,15 @@ module _ (s : Sign) (g : Good s) (ready : s .run .len ≡ 0) (c : Collection) (p
         sound = parts-sound new
             (record {
               last = p .last;
-              run = p .run;
-              collection = collecting-sound (s .last) (storedOf c position part) (λ z. omega (arith, o .right .least))
+              run = ready-anywhere (storedOf c position part .room) (s .room) (s .run) ready ∙ p .run;
+              collects = ready-collects new ready
+                  ∙ collecting-sound (s .last) (storedOf c position part) (λ z. omega (arith, o .right .least))
                   (record { known = known; other = other; most = o .right .most; some = λ z. omega arith; missing = less })
                   (stored-slots c position part lens room o);
-              alone = ready-alone new ready;
             });
         roomy = record {
           lens = length-set (c .lens) position (length part) ∙ lens;
           room = length-laid (take (14 * position) (c .room) ++ part) (c .room) fits ∙ room;
-          body = g .roomy .body;
         };
       }
 
@@ -153,7 +188,7 @@ module _ (s : Sign) (g : Good s) (ready : s .run .len ≡ 0) (c : Collection) (p
       n = storedOf c position part
 
       go : (t : Bool) → leb (c .total) (heldOf (n .lens)) ≡ t → Good (when t (releasedOf s n) (storesOf s n) .sign)
-      go true e = release-good s (c .id) (joinedOf (n .lens) (n .room)) g known
+      go true e = release-good s (c .id) (joinedOf (n .lens) (n .room)) g ready known
       go false e = stores-good (leb-false (c .total) (heldOf (n .lens)) e)
 
 stays-good : (s : Sign) (o : Outcome) → Good s → Good (staysOf s o .sign)
@@ -161,23 +196,23 @@ unfolding staysOf
 stays-good s o g = g
 
 -- a normal packet joined
-goes-good : (s : Sign) → Good s → s .run .len ≡ 0 → (total position : ℕ) (part : List ℕ) → (s .collection .total ≡ 0 → ⊥)
+goes-good : (s : Sign) → Good s → s .run .len ≡ 0 → (total position : ℕ) (part : List ℕ) → (s .slots .total ≡ 0 → ⊥)
     → Right total position (length part) → Good (goesOn s total position part .sign)
 goes-good s g ready total position part some right =
-    go (eqb (s .collection .total) total) (eqb (getD (s .collection .lens) position 0) 0) (sameOf (slotOf (s .collection) position) part) refl refl
+    go (eqb (c .total) total) (eqb (getD (c .lens) position 0) 0) (sameOf (slotOf c position) part) refl refl
   where
     c : Collection
-    c = s .collection
+    c = collectedOf s
 
-    go : (t u v : Bool) → eqb (s .collection .total) total ≡ t → eqb (getD (s .collection .lens) position 0) 0 ≡ u
+    go : (t u v : Bool) → eqb (c .total) total ≡ t → eqb (getD (c .lens) position 0) 0 ≡ u
         → Good
-        (when (not t) (staysOf s (Denied 13)) (when u (placedOf s (s .collection) position part) (when v (staysOf s Repeat) (staysOf s (Denied 13))))
+        (when (not t) (staysOf s (Denied 13)) (when u (placedOf s c position part) (when v (staysOf s Repeat) (staysOf s (Denied 13))))
         .sign)
     go false u v e f = stays-good s (Denied 13) g
     go true true v e f =
-        let k = sound-collecting (s .last) (s .collection) some (sound-parts s (g .sound) .collection) in
-        placed-good s g ready (s .collection) position part (g .roomy .lens) (g .roomy .room) (k .known) (k .other)
-        (goes-open s total position (length part) (g .sound) (eqb-true (s .collection .total) total e) right (eqb-true (getD (s .collection .lens) position 0) 0 f))
+        let k = sound-collecting (s .last) c some (ready-collected s (g .sound) ready) in
+        placed-good s g ready c position part (g .roomy .lens) (g .roomy .room) (k .known) (k .other)
+        (goes-open s total position (length part) (g .sound) ready (eqb-true (c .total) total e) right (eqb-true (getD (c .lens) position 0) 0 f))
     go true false true e f = stays-good s Repeat g
     go true false false e f = stays-good s (Denied 13) g
 
@@ -185,9 +220,9 @@ pub join-good : (s : Sign) → Good s → (id total position : ℕ) (part : List
     → Good (joinOf s id total position part .sign)
 unfolding joinOf begunOf
 join-good s g id total position part known right =
-    go (eqb id (s .last)) (eqb (s .run .len) 0) (eqb (s .collection .total) 0) (eqb (s .collection .id) id) refl refl refl
+    go (eqb id (s .last)) (eqb (s .run .len) 0) (eqb (s .slots .total) 0) (eqb (s .slots .id) id) refl refl refl
   where
-    go : (t u v w : Bool) → eqb id (s .last) ≡ t → eqb (s .run .len) 0 ≡ u → eqb (s .collection .total) 0 ≡ v
+    go : (t u v w : Bool) → eqb id (s .last) ≡ t → eqb (s .run .len) 0 ≡ u → eqb (s .slots .total) 0 ≡ v
         → Good
         (when t (staysOf s Repeat)
         (when (not u) (staysOf s (Denied 12))
@@ -201,7 +236,7 @@ join-good s g id total position part known right =
     go false true false false e f h =
         placed-good s g (eqb-true (s .run .len) 0 f) (begunOf id total) position part refl refl known (eqb-false id (s .last) e)
         (begun-open id total position (length part) right)
-    go false true false true e f h = goes-good s g (eqb-true (s .run .len) 0 f) total position part (eqb-false (s .collection .total) 0 h) right
+    go false true false true e f h = goes-good s g (eqb-true (s .run .len) 0 f) total position part (eqb-false (s .slots .total) 0 h) right
 
 -- whatever bytes come, a sound record stays sound
 pub receive-good : (s : Sign) (mid : ℕ) (b : List ℕ) → Good s → Good (receiveOf s mid b .sign)
@@ -217,34 +252,57 @@ receive-good s mid b g =
         let size : length (take len (drop 5 b)) ≡ len = length-take-le len (drop 5 b) (omega (arith, length-drop 5 b, w .size)) in
         join-good s g id total position (take len (drop 5 b)) (w .known) (subst (λ (n : ℕ). Right total position n) (sym size) (w .right))
 
--- a step keeps it too: a run that goes on collects nothing, and a run that rests stays
+-- a step keeps it too: a run that goes on has its body in the room, one that ends leaves the room empty, and one that rests stays
 pub step-good : (s : Sign) → Good s → Good (stepOf s .sign)
+unfolding begunOf
 step-good s g = subst (λ (r : Stepped). Good (r .sign)) (sym (sound-steps s (g .sound))) (go (eqb (s .run .len) 0) refl)
   where
     went : Run
-    went = runStep (s .run) .run
+    went = runStep (s .room) (s .run) .run
 
     p : Parts s
     p = sound-parts s (g .sound)
 
-    kept : (runSound went ≡ true) × (length (went .body) ≡ 84)
-    kept = step-keeps (s .run) (g .roomy .body) (p .run)
+    kept : runSound (s .room) went ≡ true
+    kept = step-keeps (s .room) (s .run) (p .run)
 
-    go : (t : Bool) → eqb (s .run .len) 0 ≡ t → Good (runsOf s went)
-    go true e =
-        let same : runStep (s .run) ≡ record { run = s .run; answer = Idle } = step-ready (s .run) (p .run) (eqb-true (s .run .len) 0 e) in
-        subst (λ (x : RunStepped). Good (runsOf s (x .run))) (sym same) g
-    go false e =
+    -- the record with the run that went on, in a room
+    new : List ℕ → Sign
+    new room = record { last = s .last; slots = s .slots; room = room; run = went }
+
+    ended : (s .run .len ≡ 0 → ⊥) → went .len ≡ 0 → Good (new (replicate 84 0))
+    ended busy rests =
+        let none : s .slots ≡ slotsIn noneOf = nothing-none (s .slots) (g .roomy .lens) (busy-nothing s (g .sound) busy) in
         record {
-          sound = parts-sound (runsOf s went)
+          sound = parts-sound (new (replicate 84 0))
               (record {
                 last = p .last;
-                run = kept .0;
-                collection = p .collection;
-                alone = none-alone (runsOf s went) (busy-none s (g .sound) (eqb-false (s .run .len) 0 e));
+                run = ready-anywhere (replicate 84 0) (s .room) went rests ∙ kept;
+                collects = ready-collects (new (replicate 84 0)) rests
+                    ∙ ap (λ (x : Slots). collectionSound (s .last) (collectionOf x (replicate 84 0))) none
+                    ∙ none-sound (s .last);
               });
-          roomy = record { lens = g .roomy .lens; room = g .roomy .room; body = kept .1 };
+          roomy = record { lens = g .roomy .lens; room = refl };
         }
+
+    goes : (s .run .len ≡ 0 → ⊥) → (went .len ≡ 0 → ⊥) → Good (new (s .room))
+    goes busy on =
+        record {
+          sound = parts-sound (new (s .room))
+              (record { last = p .last; run = kept; collects = busy-collects (new (s .room)) on ∙ busy-nothing s (g .sound) busy });
+          roomy = record { lens = g .roomy .lens; room = g .roomy .room };
+        }
+
+    after : (t : Bool) → eqb (went .len) 0 ≡ t → (s .run .len ≡ 0 → ⊥) → Good (new (when t (replicate 84 0) (s .room)))
+    after true e busy = ended busy (eqb-true (went .len) 0 e)
+    after false e busy = goes busy (eqb-false (went .len) 0 e)
+
+    go : (t : Bool) → eqb (s .run .len) 0 ≡ t → Good (new (when (not t and eqb (went .len) 0) (replicate 84 0) (s .room)))
+    go true e =
+        let same : runStep (s .room) (s .run) ≡ record { run = s .run; answer = Idle } =
+        step-ready (s .room) (s .run) (p .run) (eqb-true (s .run .len) 0 e) in
+        subst (λ (x : RunStepped). Good (record { last = s .last; slots = s .slots; room = s .room; run = x .run })) (sym same) g
+    go false e = after (eqb (went .len) 0) refl (eqb-false (s .run .len) 0 e)
 
 -- and so does the call of a reset
 pub cleared-good : (s : Sign) → Good s → Good (clearedOf s .sign)

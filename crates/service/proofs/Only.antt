@@ -1,80 +1,95 @@
 -- A sound record depends only on what it holds: of equal IDs, packets, running body, places, count and settings, two are one.
-use Prim.Native.Nat.{ℕ, _+_, _-_, _≤_}
+use Prim.Native.Nat.{ℕ, _-_}
 use mathlib.Core.List.{List, _++_}
-use mathlib.Core.Bool.{true}
-use mathlib.Core.Path.{_≡_, sym, ap, _∙_}
+use mathlib.Core.Bool.{Bool, true, false}
+use mathlib.Core.Path.{_≡_, refl, sym, ap, _∙_}
 use native.Mathlib.Omega.{arith}
+use lib.Dec.{eqb}
 use lib.ListN.{length, drop, length-drop, take-append-drop}
 use lib.Seq.{length-take-le}
+use borrow.Author.Tests.{eqb-true, eqb-false}
 use Rattle.perform.specs.declared.settings.Settings.{Settings}
-use Rattle.collect.specs.Slots.{packetsOf}
-use Rattle.collect.specs.declared.Collection.{Collection}
+use Rattle.collect.specs.Slots.{Collection, slotsIn, packetsOf}
+use Rattle.collect.specs.declared.Slots.{Slots}
 use Rattle.collect.proofs.Joined.{all-zeros, blank}
 use Rattle.collect.proofs.Only.{Neat, one-collection}
 use Rattle.collect.proofs.Sounds.{sound-slots}
-use Rattle.machine.specs.Sound.{bodyOf, soundOf as runSound}
+use Rattle.machine.specs.Sound.{bodyOf}
 use Rattle.machine.specs.declared.Loop.{Loop}
-use Rattle.machine.specs.declared.Run.{Run}
 use Rattle.machine.proofs.Sounds.{sound-parts as run-parts}
 use Rattle.sign.specs.declared.Sign.{Sign}
-use Rattle.sign.proofs.Sounds.{sound-parts}
-use Rattle.service.proofs.Keeps.{Good}
+use Rattle.sign.specs.Sound.{collectedOf}
+use Rattle.sign.proofs.Sounds.{sound-parts, ready-collected, busy-nothing, body-fits}
+use Rattle.service.proofs.Keeps.{Good, nothing-none}
 
--- the room of a sound run is its body and zeros
-body-is : (r : Run) → runSound r ≡ true → length (r .body) ≡ 84 → (length (bodyOf r) ≡ r .len) × (r .body ≡ bodyOf r ++ blank (84 - r .len))
-body-is r e l =
-    let p = run-parts r e in
-    let rest = drop (r .len) (r .body) in
-    let fits : r .len ≤ 84 = p .fits in
-    let size : length rest ≡ 84 - r .len = omega (arith, length-drop (r .len) (r .body)) in (
-      length-take-le (r .len) (r .body) (omega arith),
-      sym (take-append-drop (r .len) (r .body)) ∙ ap (λ (xs : List ℕ). bodyOf r ++ xs) (all-zeros rest (p .clean) ∙ ap blank size),
-    )
+-- the running body has the length that the record says
+body-size : (s : Sign) → Good s → length (bodyOf (s .room) (s .run)) ≡ s .run .len
+body-size s g = length-take-le (s .run .len) (s .room) (body-fits s (g .sound))
 
--- equal bodies, equal lengths and rooms
-one-body : (q r : Run) → runSound q ≡ true → runSound r ≡ true → length (q .body) ≡ 84 → length (r .body) ≡ 84 → bodyOf q ≡ bodyOf r
-    → (q .len ≡ r .len) × (q .body ≡ r .body)
-one-body q r e f l m b =
-    let x = body-is q e l in
-    let y = body-is r f m in
-    let n : q .len ≡ r .len = sym (x .0) ∙ ap length b ∙ y .0 in (
-      n,
-      x .1 ∙ ap (λ (xs : List ℕ). xs ++ blank (84 - q .len)) b ∙ ap (λ (k : ℕ). bodyOf r ++ blank (84 - k)) n ∙ sym (y .1),
-    )
+-- the room of a Busy record is its body and zeros
+body-room : (s : Sign) → Good s → (s .run .len ≡ 0 → ⊥) → s .room ≡ bodyOf (s .room) (s .run) ++ blank (84 - s .run .len)
+body-room s g busy =
+    let p = run-parts (s .room) (s .run) (sound-parts s (g .sound) .run) in
+    let rest = drop (s .run .len) (s .room) in
+    let size : length rest ≡ 84 - s .run .len = omega (arith, length-drop (s .run .len) (s .room), g .roomy .room) in
+    sym (take-append-drop (s .run .len) (s .room))
+    ∙ ap (λ (xs : List ℕ). bodyOf (s .room) (s .run) ++ xs) (all-zeros rest (p .clean busy) ∙ ap blank size)
 
 -- what two records hold alike
 pub record Alike (s t : Sign) : Type 0 where
   pub last : s .last ≡ t .last
-  pub id : s .collection .id ≡ t .collection .id
-  pub total : s .collection .total ≡ t .collection .total
-  pub packets : packetsOf (s .collection .lens) (s .collection .room) ≡ packetsOf (t .collection .lens) (t .collection .room)
-  pub body : bodyOf (s .run) ≡ bodyOf (t .run)
+  pub id : s .slots .id ≡ t .slots .id
+  pub total : s .slots .total ≡ t .slots .total
+  pub packets : packetsOf (s .slots .lens) (s .room) ≡ packetsOf (t .slots .lens) (t .room)
+  pub body : bodyOf (s .room) (s .run) ≡ bodyOf (t .room) (t .run)
   pub place : s .run .place ≡ t .run .place
   pub inner : s .run .inner ≡ t .run .inner
   pub settings : s .run .settings ≡ t .run .settings
 
-neat : (s : Sign) → Good s → Neat (s .collection)
-neat s g =
+neat : (s : Sign) → Good s → s .run .len ≡ 0 → Neat (collectedOf s)
+neat s g ready =
     record {
-      slots = sound-slots (s .last) (s .collection) (sound-parts s (g .sound) .collection);
+      slots = sound-slots (s .last) (collectedOf s) (ready-collected s (g .sound) ready);
       lens = g .roomy .lens;
       room = g .roomy .room;
     }
 
+module _ (s t : Sign) (g : Good s) (h : Good t) (a : Alike s t) where
+  one-len : s .run .len ≡ t .run .len
+  one-len = sym (body-size s g) ∙ ap length (a .body) ∙ body-size t h
+
+  -- Ready, the room goes by the packets; Busy, by the body
+  one-room : (s .slots ≡ t .slots) × (s .room ≡ t .room)
+  one-room = go (eqb (s .run .len) 0) refl
+    where
+      go : (b : Bool) → eqb (s .run .len) 0 ≡ b → (s .slots ≡ t .slots) × (s .room ≡ t .room)
+      go true e =
+          let ready = eqb-true (s .run .len) 0 e in
+          let c : collectedOf s ≡ collectedOf t =
+          one-collection (collectedOf s) (collectedOf t) (neat s g ready) (neat t h (sym one-len ∙ ready)) (a .id) (a .total) (a .packets) in
+          (ap slotsIn c, ap (λ (x : Collection). x .room) c)
+      go false e =
+          let busy = eqb-false (s .run .len) 0 e in
+          let also : t .run .len ≡ 0 → ⊥ = λ z. busy (one-len ∙ z) in (
+            nothing-none (s .slots) (g .roomy .lens) (busy-nothing s (g .sound) busy)
+                ∙ sym (nothing-none (t .slots) (h .roomy .lens) (busy-nothing t (h .sound) also)),
+            body-room s g busy
+                ∙ ap (λ (xs : List ℕ). xs ++ blank (84 - s .run .len)) (a .body)
+                ∙ ap (λ (k : ℕ). bodyOf (t .room) (t .run) ++ blank (84 - k)) one-len
+                ∙ sym (body-room t h also),
+          )
+
 pub one-record : (s t : Sign) → Good s → Good t → Alike s t → s ≡ t
 one-record s t g h a =
-    let c : s .collection ≡ t .collection =
-    one-collection (s .collection) (t .collection) (neat s g) (neat t h) (a .id) (a .total) (a .packets) in
-    let b =
-    one-body (s .run) (t .run) (sound-parts s (g .sound) .run) (sound-parts t (h .sound) .run) (g .roomy .body) (h .roomy .body) (a .body) in
-    ap (λ (n : ℕ). made n (s .collection) (s .run .body) (s .run .len) (s .run .place) (s .run .inner) (s .run .settings)) (a .last)
-    ∙ ap (λ (x : Collection). made (t .last) x (s .run .body) (s .run .len) (s .run .place) (s .run .inner) (s .run .settings)) c
-    ∙ ap (λ (xs : List ℕ). made (t .last) (t .collection) xs (s .run .len) (s .run .place) (s .run .inner) (s .run .settings)) (b .1)
-    ∙ ap (λ (n : ℕ). made (t .last) (t .collection) (t .run .body) n (s .run .place) (s .run .inner) (s .run .settings)) (b .0)
-    ∙ ap (λ (n : ℕ). made (t .last) (t .collection) (t .run .body) (t .run .len) n (s .run .inner) (s .run .settings)) (a .place)
-    ∙ ap (λ (x : Loop). made (t .last) (t .collection) (t .run .body) (t .run .len) (t .run .place) x (s .run .settings)) (a .inner)
-    ∙ ap (λ (x : Settings). made (t .last) (t .collection) (t .run .body) (t .run .len) (t .run .place) (t .run .inner) x) (a .settings)
+    let w = one-room s t g h a in
+    ap (λ (n : ℕ). made n (s .slots) (s .room) (s .run .len) (s .run .place) (s .run .inner) (s .run .settings)) (a .last)
+    ∙ ap (λ (x : Slots). made (t .last) x (s .room) (s .run .len) (s .run .place) (s .run .inner) (s .run .settings)) (w .0)
+    ∙ ap (λ (xs : List ℕ). made (t .last) (t .slots) xs (s .run .len) (s .run .place) (s .run .inner) (s .run .settings)) (w .1)
+    ∙ ap (λ (n : ℕ). made (t .last) (t .slots) (t .room) n (s .run .place) (s .run .inner) (s .run .settings)) (one-len s t g h a)
+    ∙ ap (λ (n : ℕ). made (t .last) (t .slots) (t .room) (t .run .len) n (s .run .inner) (s .run .settings)) (a .place)
+    ∙ ap (λ (x : Loop). made (t .last) (t .slots) (t .room) (t .run .len) (t .run .place) x (s .run .settings)) (a .inner)
+    ∙ ap (λ (x : Settings). made (t .last) (t .slots) (t .room) (t .run .len) (t .run .place) (t .run .inner) x) (a .settings)
   where
-    made : ℕ → Collection → List ℕ → ℕ → ℕ → Loop → Settings → Sign
-    made last c body len place inner settings =
-        record { last = last; collection = c; run = record { body = body; len = len; place = place; inner = inner; settings = settings } }
+    made : ℕ → Slots → List ℕ → ℕ → ℕ → Loop → Settings → Sign
+    made last slots room len place inner settings =
+        record { last = last; slots = slots; room = room; run = record { len = len; place = place; inner = inner; settings = settings } }

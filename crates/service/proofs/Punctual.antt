@@ -1,52 +1,178 @@
 -- A started line keeps to its forecast, whatever packets come while it runs.
-use Prim.Native.Nat.{ℕ, zero, suc}
+use Prim.Native.Nat.{ℕ, zero, suc, _≤_, _<_}
 use mathlib.Core.List.{List, _∷_}
-use mathlib.Core.Bool.{true}
+use mathlib.Core.Bool.{Bool, true, false, not}
 use mathlib.Core.Path.{_≡_, refl, sym, ap, _∙_}
+use native.Mathlib.Omega.{arith}
+use lib.Dec.{eqb}
+use lib.ListN.{length, replicate}
+use borrow.Author.Tests.{eq-eqb, ne-eqb, eqb-true, eqb-false}
+use Rattle.basis.specs.Choice.{when, _and_}
+use Rattle.basis.proofs.Choices.{when-true}
+use Rattle.room.specs.Room.{roomOf}
 use Rattle.perform.specs.Settings.{soundOf as settingsSound}
 use Rattle.perform.specs.declared.settings.Settings.{Settings}
 use Rattle.judge.specs.Verdict.{judgeOf}
 use Rattle.judge.specs.declared.Verdict.the-variants.{Finite}
-use Rattle.machine.specs.Step.{readyOf, startedOf, afterRun, saidRun}
+use Rattle.machine.specs.Line.{lineOf}
+use Rattle.machine.specs.Sound.{soundOf as runSound}
+use Rattle.machine.specs.Step.{readyOf, startedOf, stepOf as runStep, afterRun, saidRun}
 use Rattle.machine.specs.declared.Answer.{Answer}
+use Rattle.machine.specs.declared.Answer.the-variants.{Idle}
 use Rattle.machine.specs.declared.Run.{Run}
+use Rattle.machine.specs.declared.Stepped.{Stepped as RunStepped}
+use Rattle.machine.proofs.Follows.{started-busy}
+use Rattle.machine.proofs.Keeps.{step-ready, step-keeps}
+use Rattle.machine.proofs.Sounds.{ready-anywhere}
 use Rattle.reckon.proofs.Demand.{forecast-holds}
-use Rattle.machine.proofs.Lines.{line-ends}
-use Rattle.service.specs.Driver.{Event, afterEvents, saidEvents, afterSteps, saidSteps, stepsIn, Undisturbed}
+use Rattle.machine.proofs.Lines.{LineEnds, line-ends}
+use Rattle.service.specs.Driver.{Event, afterSteps, saidSteps, stepsIn, Undisturbed}
 use Rattle.service.specs.Punctual.{OnTime}
-use Rattle.sign.specs.Step.{stepOf}
+use Rattle.sign.specs.Step.{roomAfter, stepOf}
 use Rattle.sign.specs.declared.Sign.{Sign}
 use Rattle.sign.specs.declared.Stepped.{Stepped}
 use Rattle.service.proofs.Driver.{driver-after, driver-said}
 use Rattle.service.proofs.Keeps.{Good, step-good}
+use Rattle.sign.proofs.Sounds.{sound-parts}
 use Rattle.sign.proofs.Stepping.{sound-steps}
 
+-- a Ready run stays as it is and answers Idle, however many steps it gets
+rest-run : (n : ℕ) (room : List ℕ) (r : Run) → runSound room r ≡ true → r .len ≡ 0 → afterRun n room r ≡ r
+rest-run zero room r sound none = refl
+rest-run (suc n) room r sound none =
+    ap (λ (x : RunStepped). afterRun n room (x .run)) (step-ready room r sound none) ∙ rest-run n room r sound none
+
+rest-said : (n : ℕ) (room : List ℕ) (r : Run) → runSound room r ≡ true → r .len ≡ 0 → saidRun n room r ≡ replicate n Idle
+rest-said zero room r sound none = refl
+rest-said (suc n) room r sound none =
+    ap (λ (x : RunStepped). x .answer ∷ saidRun n room (x .run)) (step-ready room r sound none)
+    ∙ ap (λ (xs : List Answer). Idle ∷ xs) (rest-said n room r sound none)
+
+-- the step of a record: the run's, and the room goes with it
+module _ (s : Sign) (g : Good s) where
+  abbrev went : Run
+  went = runStep (s .room) (s .run) .run
+
+  kept : runSound (s .room) went ≡ true
+  kept = step-keeps (s .room) (s .run) (sound-parts s (g .sound) .run)
+
+  -- a room that was emptied is one beside a Ready run
+  room-is : (P : List ℕ → Type 0) → P (s .room) → ((s .run .len ≡ 0 → ⊥) → went .len ≡ 0 → P (replicate 84 0)) → P (roomAfter s went)
+  room-is P same ends = go (eqb (s .run .len) 0) (eqb (went .len) 0) refl refl
+    where
+      go : (t u : Bool) → eqb (s .run .len) 0 ≡ t → eqb (went .len) 0 ≡ u → P (when (not t and u) (replicate 84 0) (s .room))
+      go true u e f = same
+      go false true e f = ends (eqb-false (s .run .len) 0 e) (eqb-true (went .len) 0 f)
+      go false false e f = same
+
+  -- so the steps after it don't ask which
+  room-run : (n : ℕ) → afterRun n (roomAfter s went) went ≡ afterRun n (s .room) went
+  room-run n =
+      room-is (λ room. afterRun n room went ≡ afterRun n (s .room) went) refl
+      (λ busy none.
+      rest-run n (replicate 84 0) went (ready-anywhere (replicate 84 0) (s .room) went none ∙ kept) none ∙ sym (rest-run n (s .room) went kept none))
+
+  room-said : (n : ℕ) → saidRun n (roomAfter s went) went ≡ saidRun n (s .room) went
+  room-said n =
+      room-is (λ room. saidRun n room went ≡ saidRun n (s .room) went) refl
+      (λ busy none.
+      rest-said n (replicate 84 0) went (ready-anywhere (replicate 84 0) (s .room) went none ∙ kept) none ∙ sym (rest-said n (s .room) went kept none))
+
 -- the steps of a sound record are its run's
-steps-run : (n : ℕ) (s : Sign) → Good s → afterSteps n s .run ≡ afterRun n (s .run)
+steps-run : (n : ℕ) (s : Sign) → Good s → afterSteps n s .run ≡ afterRun n (s .room) (s .run)
 steps-run zero s g = refl
 steps-run (suc n) s g =
-    steps-run n (stepOf s .sign) (step-good s g) ∙ ap (λ (r : Stepped). afterRun n (r .sign .run)) (sound-steps s (g .sound))
+    steps-run n (stepOf s .sign) (step-good s g)
+    ∙ ap (λ (r : Stepped). afterRun n (r .sign .room) (r .sign .run)) (sound-steps s (g .sound))
+    ∙ room-run s g n
 
-steps-said : (n : ℕ) (s : Sign) → Good s → saidSteps n s ≡ saidRun n (s .run)
+steps-said : (n : ℕ) (s : Sign) → Good s → saidSteps n s ≡ saidRun n (s .room) (s .run)
 steps-said zero s g = refl
 steps-said (suc n) s g =
     ap (λ (xs : List Answer). stepOf s .answer ∷ xs) (steps-said n (stepOf s .sign) (step-good s g))
-    ∙ ap (λ (r : Stepped). r .answer ∷ saidRun n (r .sign .run)) (sound-steps s (g .sound))
+    ∙ ap (λ (r : Stepped). r .answer ∷ saidRun n (r .sign .room) (r .sign .run)) (sound-steps s (g .sound))
+    ∙ ap (λ (xs : List Answer). runStep (s .room) (s .run) .answer ∷ xs) (room-said s g n)
 
-pub on-time : (mid : ℕ) (es : List Event) (s : Sign) (b : List ℕ) (σ : Settings) → Good s → s .run ≡ startedOf b σ → settingsSound σ ≡ true
+-- and so many of them
+after-good : (n : ℕ) (s : Sign) → Good s → Good (afterSteps n s)
+after-good zero s g = g
+after-good (suc n) s g = after-good n (stepOf s .sign) (step-good s g)
+
+after-next : (n : ℕ) (s : Sign) → afterSteps (suc n) s ≡ stepOf (afterSteps n s) .sign
+after-next zero s = refl
+after-next (suc n) s = after-next n (stepOf s .sign)
+
+-- a step leaves the room of a run that goes on, and empties that of one which ends
+step-holds : (s : Sign) → Good s → (stepOf s .sign .run .len ≡ 0 → ⊥) → stepOf s .sign .room ≡ s .room
+step-holds s g on =
+    ap (λ (r : Stepped). r .sign .room) (sound-steps s (g .sound))
+    ∙ room-is s g (λ room. room ≡ s .room) refl (λ busy none. absurd (on (ap (λ (r : Stepped). r .sign .run .len) (sound-steps s (g .sound)) ∙ none)))
+
+step-empty : (s : Sign) → Good s → (s .run .len ≡ 0 → ⊥) → stepOf s .sign .run .len ≡ 0 → stepOf s .sign .room ≡ replicate 84 0
+step-empty s g busy none =
+    ap (λ (r : Stepped). r .sign .room) (sound-steps s (g .sound))
+    ∙ ap (λ (t : Bool). when (not t and eqb (went s g .len) 0) (replicate 84 0) (s .room)) (ne-eqb (s .run .len) 0 busy)
+    ∙ when-true (eqb (went s g .len) 0) (replicate 84 0) (s .room)
+    (eq-eqb (went s g .len) 0 (sym (ap (λ (r : Stepped). r .sign .run .len) (sound-steps s (g .sound))) ∙ none))
+
+-- while a line is Busy its body stays in the room
+steps-hold : (n : ℕ) (s : Sign) → Good s → ((k : ℕ) → k ≤ n → afterSteps k s .run .len ≡ 0 → ⊥) → afterSteps n s .room ≡ s .room
+steps-hold zero s g busy = refl
+steps-hold (suc n) s g busy =
+    ap (λ (t : Sign). t .room) (after-next n s)
+    ∙ step-holds (afterSteps n s) (after-good n s g) (λ z. busy (suc n) (omega arith) (ap (λ (t : Sign). t .run .len) (after-next n s) ∙ z))
+    ∙ steps-hold n s g (λ k h. busy k (omega arith))
+
+-- and its last step empties the room
+steps-empty : (n : ℕ) (s : Sign) → Good s → 0 < n → ((k : ℕ) → k < n → afterSteps k s .run .len ≡ 0 → ⊥) → afterSteps n s .run .len ≡ 0
+    → afterSteps n s .room ≡ replicate 84 0
+steps-empty zero s g some busy none = absurd (omega arith)
+steps-empty (suc n) s g some busy none =
+    ap (λ (t : Sign). t .room) (after-next n s)
+    ∙ step-empty (afterSteps n s) (after-good n s g) (busy n (omega arith)) (sym (ap (λ (t : Sign). t .run .len) (after-next n s)) ∙ none)
+
+pub on-time : (mid : ℕ) (es : List Event) (s : Sign) (b : List ℕ) (σ : Settings) → Good s → s .room ≡ roomOf b → s .run ≡ startedOf (length b) σ
+    → settingsSound σ ≡ true
     → judgeOf b ≡ Finite
     → Undisturbed mid es s
     → OnTime mid es s b σ
 unfolding readyOf
-on-time mid es s b σ g e set fin u =
-    let l = line-ends b fin σ set in
-    let n = stepsIn es in
-    let run : afterEvents mid es s .run ≡ afterRun n (startedOf b σ) =
-    ap (λ (t : Sign). t .run) (driver-after mid es s u) ∙ steps-run n s g ∙ ap (afterRun n) e in
-    let says : saidEvents mid es s ≡ saidRun n (startedOf b σ) = driver-said mid es s u ∙ steps-said n s g ∙ ap (saidRun n) e in
+on-time mid es s b σ g w e set fin u =
     record {
       foretold = forecast-holds b σ set fin;
-      busy = λ before z. l .busy-before n before (sym (ap (λ (r : Run). r .len) run) ∙ z);
-      ready = λ all. ap (λ (r : Run). r .len) (run ∙ ap (λ (k : ℕ). afterRun k (startedOf b σ)) all ∙ l .ready-then);
-      said = λ all. says ∙ ap (λ (k : ℕ). saidRun k (startedOf b σ)) all ∙ l .performed;
+      busy = λ before z. busy n before (sym (ap (λ (t : Sign). t .run .len) (driver-after mid es s u)) ∙ z);
+      holds = λ before.
+          ap (λ (t : Sign). t .room) (driver-after mid es s u) ∙ steps-hold n s g (λ k h. busy k (omega arith)) ∙ w;
+      ready = λ all. ap (λ (t : Sign). t .run .len) (driver-after mid es s u) ∙ ap (λ (k : ℕ). afterSteps k s .run .len) all ∙ none;
+      empty = λ all.
+          ap (λ (t : Sign). t .room) (driver-after mid es s u) ∙ ap (λ (k : ℕ). afterSteps k s .room) all ∙ steps-empty m s g some busy none;
+      said = λ all. driver-said mid es s u ∙ ap (λ (k : ℕ). saidSteps k s) all ∙ says ∙ l .performed;
     }
+  where
+    l : LineEnds b σ
+    l = line-ends b fin σ set
+
+    n : ℕ
+    n = stepsIn es
+
+    m : ℕ
+    m = length (lineOf b σ)
+
+    run : (k : ℕ) → afterSteps k s .run ≡ afterRun k (roomOf b) (startedOf (length b) σ)
+    run k = steps-run k s g ∙ ap (λ (room : List ℕ). afterRun k room (s .run)) w ∙ ap (afterRun k (roomOf b)) e
+
+    says : saidSteps m s ≡ saidRun m (roomOf b) (startedOf (length b) σ)
+    says = steps-said m s g ∙ ap (λ (room : List ℕ). saidRun m room (s .run)) w ∙ ap (saidRun m (roomOf b)) e
+
+    busy : (k : ℕ) → k < m → afterSteps k s .run .len ≡ 0 → ⊥
+    busy k before z = l .busy-before k before (sym (ap (λ (r : Run). r .len) (run k)) ∙ z)
+
+    none : afterSteps m s .run .len ≡ 0
+    none = ap (λ (r : Run). r .len) (run m ∙ l .ready-then)
+
+    some : 0 < m
+    some = go m refl
+      where
+        go : (k : ℕ) → m ≡ k → 0 < m
+        go zero q = absurd (started-busy b false fin σ set (sym (ap (λ (r : Run). r .len) e) ∙ ap (λ (k : ℕ). afterSteps k s .run .len) (sym q) ∙ none))
+        go (suc k) q = omega arith

@@ -27,7 +27,7 @@ pub data Event : Type 0 where
   step : Event
   bytes : List ℕ → Event
 
--- the record behind events, and the answers of the steps among them
+-- the record after events, and the answers of the steps among them
 abbrev pub afterEvents : ℕ → List Event → Sign → Sign
 afterEvents mid [] s = s
 afterEvents mid (step ∷ es) s = afterEvents mid es (stepOf s .sign)

@@ -3,7 +3,8 @@
 use Prim.Native.Nat.{ℕ, _<_}
 use mathlib.Core.List.{List}
 use mathlib.Core.Path.{_≡_}
-use lib.ListN.{length}
+use lib.ListN.{length, replicate}
+use Rattle.room.specs.Room.{roomOf}
 use Rattle.perform.specs.declared.settings.Settings.{Settings}
 use Rattle.course.specs.Price.{sumBy, scans, millis}
 use Rattle.reckon.specs.Forecast.{forecastOf}
@@ -13,9 +14,12 @@ use Rattle.machine.specs.Line.{lineOf, performed}
 use Rattle.service.specs.Driver.{Event, afterEvents, saidEvents, stepsIn}
 use Rattle.sign.specs.declared.Sign.{Sign}
 
--- the steps among the events are those of the forecast: Busy before the last, Ready behind it, and the line's own answers
+-- the steps among the events are those of the forecast: Busy before the last, with the body in the room, and Ready after it with an
+-- empty room, and the line's own answers
 pub record OnTime (mid : ℕ) (es : List Event) (s : Sign) (b : List ℕ) (σ : Settings) : Type 0 where
   pub foretold : forecastOf b (σ .pace) (σ .scans) ≡ Ends (totalsOf (length (lineOf b σ)) (sumBy scans (lineOf b σ)) (sumBy millis (lineOf b σ)))
   pub busy : stepsIn es < length (lineOf b σ) → afterEvents mid es s .run .len ≡ 0 → ⊥
+  pub holds : stepsIn es < length (lineOf b σ) → afterEvents mid es s .room ≡ roomOf b
   pub ready : stepsIn es ≡ length (lineOf b σ) → afterEvents mid es s .run .len ≡ 0
+  pub empty : stepsIn es ≡ length (lineOf b σ) → afterEvents mid es s .room ≡ replicate 84 0
   pub said : stepsIn es ≡ length (lineOf b σ) → saidEvents mid es s ≡ performed (lineOf b σ)

@@ -38,21 +38,21 @@ reply-tells s mid aux out after r sound last w =
     ap (λ (t : Bool). firstOf (32 if not t ∷ shortBy bytes out ∷ [])) last ∙ sym (sound-rows s bytes out sound) in
     record { answered = w .answered ∙ ap (λ (n : ℕ). answerOf n bytes) e; left = w .left ∙ ap (λ (n : ℕ). bufferOf n bytes out) e }
 
-module _ (s : Sign) (out : List ℕ) (sound : soundOf s ≡ true) (room : s .run .len ≤ length (s .run .body)) where
-  size : length (bodyOf (s .run)) ≡ s .run .len
-  size = length-take-le (s .run .len) (s .run .body) room
+module _ (s : Sign) (out : List ℕ) (sound : soundOf s ≡ true) (room : s .run .len ≤ length (s .room)) where
+  size : length (bodyOf (s .room) (s .run)) ≡ s .run .len
+  size = length-take-le (s .run .len) (s .room) room
 
-  pub short-tells : length out < s .run .len → Writes (toldRows s (bodyOf (s .run)) out) (bodyOf (s .run)) out (Refused 34) out
+  pub short-tells : length out < s .run .len → Writes (toldRows s (bodyOf (s .room) (s .run)) out) (bodyOf (s .room) (s .run)) out (Refused 34) out
   short-tells h =
-      refused (toldRows s (bodyOf (s .run)) out) (bodyOf (s .run)) out 33
-      (sound-rows s (bodyOf (s .run)) out sound ∙ ap (λ (t : Bool). when t 34 0) (lt-ltb (length out) (length (bodyOf (s .run))) (omega (arith, size))))
+      refused (toldRows s (bodyOf (s .room) (s .run)) out) (bodyOf (s .room) (s .run)) out 33
+      (sound-rows s (bodyOf (s .room) (s .run)) out sound ∙ ap (λ (t : Bool). when t 34 0) (lt-ltb (length out) (length (bodyOf (s .room) (s .run))) (omega (arith, size))))
 
   pub copy-tells : (after : List ℕ) → s .run .len ≤ length out
-      → after ≡ take (length (bodyOf (s .run))) (bodyOf (s .run)) ++ drop (length (bodyOf (s .run))) out
-      → Writes (toldRows s (bodyOf (s .run)) out) (bodyOf (s .run)) out (Wrote (s .run .len)) after
+      → after ≡ take (length (bodyOf (s .room) (s .run))) (bodyOf (s .room) (s .run)) ++ drop (length (bodyOf (s .room) (s .run))) out
+      → Writes (toldRows s (bodyOf (s .room) (s .run)) out) (bodyOf (s .room) (s .run)) out (Wrote (s .run .len)) after
   unfolding laid
   copy-tells after h e =
-      wrote (toldRows s (bodyOf (s .run)) out) (bodyOf (s .run)) out (s .run .len) after
-      (sound-rows s (bodyOf (s .run)) out sound ∙ ap (λ (t : Bool). when t 34 0) (le-ltb (length out) (length (bodyOf (s .run))) (omega (arith, size))))
+      wrote (toldRows s (bodyOf (s .room) (s .run)) out) (bodyOf (s .room) (s .run)) out (s .run .len) after
+      (sound-rows s (bodyOf (s .room) (s .run)) out sound ∙ ap (λ (t : Bool). when t 34 0) (le-ltb (length out) (length (bodyOf (s .room) (s .run))) (omega (arith, size))))
       (sym size)
-      (e ∙ ap (λ (x : List ℕ). x ++ drop (length (bodyOf (s .run))) out) (take-length (bodyOf (s .run))))
+      (e ∙ ap (λ (x : List ℕ). x ++ drop (length (bodyOf (s .room) (s .run))) out) (take-length (bodyOf (s .room) (s .run))))

@@ -1,42 +1,46 @@
--- A normal packet that passed the reader, judged in 01's order and joined: the order is `hear`'s, and here are the records behind it.
+-- A normal packet that passed the reader, judged in 01's order and joined: the order is `hear`'s, and here are the records after it.
 use Prim.Native.Nat.{ℕ}
 use mathlib.Core.List.{List}
 use lib.ListN.{length, replicate}
-use Rattle.basis.specs.Bytes.{laid}
+use Rattle.room.specs.Room.{roomOf}
 use Rattle.judge.specs.Verdict.{judgeOf}
 use Rattle.judge.specs.declared.Verdict.{Verdict}
 use Rattle.judge.specs.declared.Verdict.the-variants.{Finite, Endless, Refused as NoProgram}
-use Rattle.collect.specs.Slots.{joinedOf, noneOf, storedOf}
-use Rattle.collect.specs.declared.Collection.{Collection}
-use Rattle.machine.specs.Step.{outside, startedOf}
+use Rattle.collect.specs.Slots.{Collection, slotsIn, joinedOf, noneOf, storedOf}
+use Rattle.machine.specs.Step.{startedOf}
 use Rattle.machine.specs.declared.Run.{Run}
-use Rattle.sign.specs.declared.Sign.{Sign}
-use Rattle.sign.specs.declared.Received.{Received}
-use Rattle.hear.specs.Join.{countBy, goesBy, joinBy}
+use Rattle.hear.specs.Join.{countBy, goesBy, joinBy, bodyIn}
 use Rattle.hear.specs.declared.Outcome.{Outcome}
 use Rattle.hear.specs.declared.Outcome.the-variants.{Stored, Released}
+use Rattle.sign.specs.Sound.{collectedOf}
+use Rattle.sign.specs.declared.Sign.{Sign}
+use Rattle.sign.specs.declared.Received.{Received}
+
+-- the record of a last ID, what is collected with its room, and a run
+abbrev pub signOf : ℕ → Collection → Run → Sign
+signOf last c run = record { last = last; slots = slotsIn c; room = c .room; run = run }
 
 -- nothing changes, and no body comes with the answer
 unfoldable pub staysOf : Sign → Outcome → Received
 staysOf s outcome = record { sign = s; outcome = outcome; body = replicate 84 0; len = 0 }
 
 -- an accepted body runs; with another the sign stays Ready
-abbrev pub startsOf : Verdict → Run → Run → Run
-startsOf Finite started run = started
-startsOf Endless started run = started
-startsOf (NoProgram n p) started run = run
+abbrev pub startsOf : Verdict → Sign → Sign → Sign
+startsOf Finite runs rests = runs
+startsOf Endless runs rests = runs
+startsOf (NoProgram n p) runs rests = rests
 
 -- Stored: the collection with the packet in it
 abbrev pub storesOf : Sign → Collection → Received
-storesOf s c = staysOf (record { last = s .last; collection = c; run = s .run }) Stored
+storesOf s c = staysOf (signOf (s .last) c (s .run)) Stored
 
 -- Released: the body comes with the answer, nothing is being collected, the ID is last completed
 unfoldable pub releaseOf : Sign → ℕ → List ℕ → Received
 releaseOf s id body =
     record {
-      sign = record { last = id; collection = noneOf; run = startsOf (judgeOf body) (startedOf body (s .run .settings)) (s .run) };
+      sign = startsOf (judgeOf body) (signOf id (bodyIn body) (startedOf (length body) (s .run .settings))) (signOf id noneOf (s .run));
       outcome = Released (judgeOf body);
-      body = laid body (replicate 84 0);
+      body = roomOf body;
       len = length body;
     }
 
@@ -53,11 +57,14 @@ placedOf s c position part = countedOf s (storedOf c position part)
 
 -- a packet of the ID that is being collected
 abbrev pub goesOn : Sign → ℕ → ℕ → List ℕ → Received
-goesOn s total position part = goesBy (staysOf s) (countedOf s) (s .collection) total position part
+goesOn s total position part = goesBy (staysOf s) (countedOf s) (collectedOf s) total position part
 
 unfoldable pub joinOf : Sign → ℕ → ℕ → ℕ → List ℕ → Received
-joinOf s id total position part = joinBy (staysOf s) (countedOf s) (s .last) (s .collection) (s .run .len) id total position part
+joinOf s id total position part = joinBy (staysOf s) (countedOf s) (s .last) (collectedOf s) (s .run .len) id total position part
 
--- a run of a body that lies in a room of 84 bytes, as the code makes it
-abbrev pub startOf : List ℕ → ℕ → Run → Run
-startOf room len run = record { body = room; len = len; place = 0; inner = outside; settings = run .settings }
+-- a record whose room holds a body of this length that runs, and one whose room is emptied
+abbrev pub runningOf : Sign → ℕ → Sign
+runningOf s len = record { last = s .last; slots = s .slots; room = s .room; run = startedOf len (s .run .settings) }
+
+abbrev pub emptiedOf : Sign → Sign
+emptiedOf s = record { last = s .last; slots = s .slots; room = replicate 84 0; run = s .run }

@@ -4,11 +4,11 @@ use mathlib.Core.List.{List}
 use Rattle.basis.specs.Choice.{when}
 use Rattle.reader.specs.Read.{readOf}
 use Rattle.reader.specs.declared.read.Reading.{Reading}
-use Rattle.collect.specs.declared.Collection.{Collection}
+use Rattle.machine.specs.Step.{readyOf}
 use Rattle.hear.specs.Hear.{readBy}
 use Rattle.sign.specs.Sound.{soundOf}
-use Rattle.sign.specs.Reset.{resetOf}
-use Rattle.sign.specs.Join.{staysOf, storesOf, releasedOf, joinOf}
+use Rattle.sign.specs.Reset.{startSettings, resetOf}
+use Rattle.sign.specs.Join.{staysOf, startsOf, runningOf, emptiedOf, joinOf}
 use Rattle.sign.specs.declared.Sign.{Sign}
 use Rattle.sign.specs.declared.Received.{Received}
 use Rattle.hear.specs.declared.Outcome.{Outcome}
@@ -21,20 +21,12 @@ heardOf s b read = readBy (staysOf s) (staysOf (resetOf s) Reset) (joinOf s) b r
 unfoldable pub receiveOf : Sign → ℕ → List ℕ → Received
 receiveOf s mid b = when (soundOf s) (heardOf s b (readOf mid b)) (staysOf s (Refused 16))
 
--- the record behind what was heard, where this is the collection
-abbrev pub behindOf : Sign → Collection → Outcome → Received
-behindOf s c Query = staysOf s Query
-behindOf s c Reset = staysOf (resetOf s) Reset
-behindOf s c Repeat = staysOf s Repeat
-behindOf s c Stored = storesOf s c
-behindOf s c (Released v) = releasedOf s c
-behindOf s c (Refused n) = staysOf s (Refused n)
-
--- an outcome in 01's words: the number for no, 0 for yes
-abbrev pub numberOf : Outcome → ℕ
-numberOf Query = 0
-numberOf Reset = 0
-numberOf Repeat = 0
-numberOf Stored = 0
-numberOf (Released v) = 0
-numberOf (Refused n) = n
+-- the record after an outcome, where hearing left all but the run as it stands here, and the length of a body released
+abbrev pub behindOf : Outcome → Sign → ℕ → Received
+behindOf Query s len = staysOf s Query
+behindOf Reset s len =
+    staysOf (record { last = s .last; slots = s .slots; room = s .room; run = readyOf (startSettings (s .run .settings .dim) (s .run .settings .bright)) }) Reset
+behindOf Repeat s len = staysOf s Repeat
+behindOf Stored s len = staysOf s Stored
+behindOf (Released v) s len = record { sign = startsOf v (runningOf s len) (emptiedOf s); outcome = Released v; body = s .room; len = len }
+behindOf (Refused n) s len = staysOf s (Refused n)

@@ -2,11 +2,11 @@
 -- 01: "Reset drops collection and body and sets Ready, pace 4, one scan, AUX floating, last ID 41h; dim threshold and forced brightness
 -- stay. Power-on is the same with threshold 16 and no forced brightness." 16: "unsound record, before all else in calls that take one".
 use Prim.Native.Nat.{ℕ}
-use mathlib.Core.Bool.{false}
 use Rattle.basis.specs.Choice.{when}
 use Rattle.perform.specs.declared.settings.Settings.{Settings}
 use Rattle.collect.specs.Slots.{noneOf}
 use Rattle.machine.specs.Step.{readyOf}
+use Rattle.sign.specs.Join.{signOf}
 use Rattle.sign.specs.Sound.{soundOf}
 use Rattle.sign.specs.declared.Sign.{Sign}
 use Rattle.sign.specs.declared.Cleared.{Cleared}
@@ -14,11 +14,11 @@ use Rattle.hear.specs.declared.Outcome.the-variants.{Reset, Refused}
 
 -- pace 4, one scan, AUX floating
 abbrev pub startSettings : ℕ → ℕ → Settings
-startSettings dim bright = record { pace = 4; scans = 1; sink = false; dim = dim; bright = bright }
+startSettings dim bright = record { pace = 4; scans = 1; sink = 0; dim = dim; bright = bright }
 
 -- nothing collected, no body, last ID 41h
 unfoldable pub freshOf : ℕ → ℕ → Sign
-freshOf dim bright = record { last = 0x41; collection = noneOf; run = readyOf (startSettings dim bright) }
+freshOf dim bright = signOf 0x41 noneOf (readyOf (startSettings dim bright))
 
 -- dim threshold and forced brightness stay
 abbrev pub resetOf : Sign → Sign

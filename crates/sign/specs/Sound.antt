@@ -1,22 +1,28 @@
 -- Which records are sound, one rule for each part.
 -- 01: "A record is sound if: last ID 0 to 3Fh or 41h; pace, scans, threshold in range, brightness 0 or 2 to 31; the collected packets ..;
 -- unused room holds zeros; Ready has no body, and places and count 0; Busy collects nothing, has an accepted body and .."
+-- While Ready the room is the collected packets', while Busy it is the running body's.
 use mathlib.Core.Bool.{Bool}
 use lib.Dec.{eqb}
-use Rattle.basis.specs.Choice.{_and_, _or_}
+use Rattle.basis.specs.Choice.{when, _and_}
 use Rattle.reply.specs.Reply.{isLast}
-use Rattle.collect.specs.Sound.{soundOf as collectionSound}
+use Rattle.collect.specs.Slots.{Collection, collectionOf}
+use Rattle.collect.specs.Sound.{nothingOf, soundOf as collectionSound}
 use Rattle.machine.specs.Sound.{soundOf as runSound}
 use Rattle.hear.specs.Frame.{framedBy}
 use Rattle.sign.specs.declared.Sign.{Sign}
 
--- Busy collects nothing
-abbrev pub aloneOf : Sign → Bool
-aloneOf s = eqb (s .run .len) 0 or eqb (s .collection .total) 0
+-- the slots with the room
+abbrev pub collectedOf : Sign → Collection
+collectedOf s = collectionOf (s .slots) (s .room)
+
+-- Ready: the collected packets are sound; Busy collects nothing
+abbrev pub collectsOf : Sign → Bool
+collectsOf s = when (eqb (s .run .len) 0) (collectionSound (s .last) (collectedOf s)) (nothingOf (s .slots))
+
+unfoldable pub soundOf : Sign → Bool
+soundOf s = isLast (s .last) and runSound (s .room) (s .run) and collectsOf s
 
 -- all of it but the run
 abbrev pub framedOf : Sign → Bool
-framedOf s = framedBy (s .last) (s .collection) (s .run .len)
-
-unfoldable pub soundOf : Sign → Bool
-soundOf s = isLast (s .last) and runSound (s .run) and collectionSound (s .last) (s .collection) and aloneOf s
+framedOf s = framedBy (s .last) (collectedOf s) (s .run .len)

@@ -1,25 +1,29 @@
--- One step of the record: 16 for an unsound one, which stays; otherwise the run goes on by a step and all else stays.
+-- One step of the record: 16 for an unsound one, which stays; otherwise the run goes on by a step and all else stays, but that the
+-- room is emptied where the body has run to its end.
 use Prim.Native.Nat.{ℕ}
-use Rattle.basis.specs.Choice.{when}
+use mathlib.Core.List.{List}
+use mathlib.Core.Bool.{not}
+use lib.Dec.{eqb}
+use lib.ListN.{replicate}
+use Rattle.basis.specs.Choice.{when, _and_}
 use Rattle.machine.specs.Step.{stepOf as runStep}
 use Rattle.machine.specs.declared.Run.{Run}
-use Rattle.machine.specs.declared.Answer.{Answer}
-use Rattle.machine.specs.declared.Answer.the-variants.{Did, Idle, Refused}
+use Rattle.machine.specs.declared.Answer.the-variants.{Refused}
+use Rattle.machine.specs.declared.Stepped.{Stepped as RunStepped}
 use Rattle.sign.specs.Sound.{soundOf}
 use Rattle.sign.specs.declared.Sign.{Sign}
 use Rattle.sign.specs.declared.Stepped.{Stepped}
 
--- the record with another run
+-- the room with the run after a step: zeros where Busy became Ready
+abbrev pub roomAfter : Sign → Run → List ℕ
+roomAfter s run = when (not (eqb (s .run .len) 0) and eqb (run .len) 0) (replicate 84 0) (s .room)
+
+-- the record with the run after a step
 abbrev pub runsOf : Sign → Run → Sign
-runsOf s run = record { last = s .last; collection = s .collection; run = run }
+runsOf s run = record { last = s .last; slots = s .slots; room = roomAfter s run; run = run }
+
+abbrev pub steppedOf : Sign → RunStepped → Stepped
+steppedOf s went = record { sign = runsOf s (went .run); answer = went .answer }
 
 unfoldable pub stepOf : Sign → Stepped
-stepOf s =
-    when (soundOf s) (record { sign = runsOf s (runStep (s .run) .run); answer = runStep (s .run) .answer })
-    (record { sign = s; answer = Refused 16 })
-
--- a step's answer in 01's words: the number for no, 0 for yes
-abbrev pub numberOf : Answer → ℕ
-numberOf (Did x) = 0
-numberOf Idle = 0
-numberOf (Refused n) = n
+stepOf s = when (soundOf s) (steppedOf s (runStep (s .room) (s .run))) (record { sign = s; answer = Refused 16 })

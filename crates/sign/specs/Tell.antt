@@ -7,6 +7,7 @@ use lib.Dec.{eqb}
 use Rattle.basis.specs.Rows.{Row, _if_}
 use Rattle.packet.specs.Wire.{replyOf}
 use Rattle.packet.specs.Write.{shortBy}
+use Rattle.machine.specs.Sound.{bodyOf}
 use Rattle.sign.specs.Sound.{soundOf}
 use Rattle.sign.specs.declared.Sign.{Sign}
 
@@ -18,6 +19,10 @@ busyOf s = not (eqb (s .run .len) 0)
 abbrev pub saysOf : Sign → ℕ → Bool → List ℕ
 saysOf s mid aux = replyOf mid (s .last) (busyOf s) aux
 
--- the refusals of a call that lays these bytes into the buffer
+-- the running body, none when Ready
+abbrev pub runningBody : Sign → List ℕ
+runningBody s = bodyOf (s .room) (s .run)
+
+-- the refusals of a call that writes these bytes into the buffer
 abbrev pub toldRows : Sign → List ℕ → List ℕ → List Row
 toldRows s bytes out = 16 if not (soundOf s) ∷ shortBy bytes out ∷ []

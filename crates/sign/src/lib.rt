@@ -2,7 +2,7 @@
 // No public call has a `requires`: each answers for any record and any bytes, 16 for an unsound record before all else.
 //   sound    which records are sound                               "A record is sound if: .."
 //   reset    power-on and reset                                    "Reset drops collection and body and sets Ready, .."
-//   receive  the record behind what `hear` makes of bytes           "nothing is being collected, and the ID is last completed"
+//   receive  the record after what `hear` makes of bytes            "nothing is being collected, and the ID is last completed"
 //   steps    one step of the running program                       "A step performs one command"
 //   tell     the reply to a query, and a copy of the running body   "One call copies the running body (none when Ready)"
 mod receive;
@@ -11,21 +11,21 @@ mod sound;
 mod steps;
 mod tell;
 
-use collect::Collection;
+use collect::Slots;
 use hear::Outcome;
 use machine::Answer;
 use machine::Run;
-pub use receive::start;
-pub use reset::fresh;
 
-// The record: last completed ID, the packets being collected, and the running program with the settings.
+// The record: last completed ID, the slots of the packets being collected, one room, and the running program with the settings. The
+// room holds the packets' data while Ready and the running body while Busy: Busy collects nothing, and Ready has no body.
 pub struct Sign {
     pub last: u8,
-    pub collection: Collection,
+    pub slots: Slots,
+    pub room: [u8; 84],
     pub run: Run,
 }
 
-// The record behind a receive, its outcome, and the body that was released: `len` bytes of it, zeros behind.
+// The record after a receive, its outcome, and the body that was released: `len` bytes of it, zeros after them.
 pub struct Received {
     pub sign: Sign,
     pub outcome: Outcome,
@@ -33,13 +33,13 @@ pub struct Received {
     pub len: usize,
 }
 
-// The record behind a reset, and whether the record was sound.
+// The record after a reset, and whether the record was sound.
 pub struct Cleared {
     pub sign: Sign,
     pub outcome: Outcome,
 }
 
-// The record behind a step, and the step's answer.
+// The record after a step, and the step's answer.
 pub struct Stepped {
     pub sign: Sign,
     pub answer: Answer,

@@ -1,47 +1,29 @@
-// Bytes off the line: the record behind what was heard. Answers to 01, "Joining": "the data joined by position is the body and comes with
+// Bytes off the line: the record after what was heard. Answers to 01, "Joining": "the data joined by position is the body and comes with
 // the answer, nothing is being collected, and the ID is last completed. If the body is an accepted program the sign is Busy at its
 // first command; if not, .. the sign stays Ready", and to 16.
 use crate::Received;
 use crate::Sign;
-use crate::reset::fresh;
-use collect::Collection;
-use collect::begun;
-use hear::Heard;
+use crate::reset::rested;
 use hear::Outcome;
 use hear::hear;
 use judge::Verdict;
 use machine::Loop;
 use machine::Run;
+use perform::Settings;
 ghost use mathlib.Core.Path.{_≡_};
-ghost use lib.ListN.{length};
-ghost use Rattle.judge.specs.Verdict.{judgeOf};
-ghost use Rattle.collect.specs.Slots.{joinedOf};
-ghost use Rattle.hear.specs.Join.{Whole, Sure};
-ghost use Rattle.sign.specs.Join.{staysOf, startsOf, startOf, storesOf, releasedOf};
+ghost use Rattle.machine.specs.Step.{startedOf};
+ghost use Rattle.sign.specs.Join.{staysOf, runningOf, emptiedOf, startsOf};
 ghost use Rattle.sign.specs.Receive.{behindOf, receiveOf};
 
-// A run of this body from its first command.
-pub fn start(body: [u8; 84], len: usize, run: Run) -> Run
-    ensures { λ r. ⌜ r ≡ startOf body len run ⌝ }
+// A run of a body of this length from its first command.
+fn start(len: usize, settings: Settings) -> Run
+    ensures { λ r. ⌜ r ≡ startedOf len settings ⌝ }
 {
-    let settings = run.settings;
     Run {
-        body,
         len,
         place: 0,
         inner: Loop { place: 0, left: 0 },
         settings,
-    }
-}
-
-// The run behind a release: the body's, if it was accepted.
-fn starts(verdict: Verdict, body: [u8; 84], len: usize, run: Run) -> Run
-    ensures { λ r. ⌜ r ≡ startsOf verdict (startOf body len run) run ⌝ }
-{
-    match verdict {
-        Verdict::Finite => start(body, len, run),
-        Verdict::Endless => start(body, len, run),
-        Verdict::Refused(_, _) => run,
     }
 }
 
@@ -58,54 +40,61 @@ impl Sign {
         }
     }
 
-    // The packet is one more of its collection, and not the last that was missing.
-    fn stores(self, collection: Collection) -> Received
-        ensures { λ r. ⌜ r ≡ storesOf self collection ⌝ }
+    // The body in the room runs from its first command.
+    fn running(self, len: usize) -> Sign
+        ensures { λ r. ⌜ r ≡ runningOf self len ⌝ }
     {
+        let settings = self.run.settings;
+        let run = start(len, settings);
         let mut next = self;
-        next.collection = collection;
-        next.stays(Outcome::Stored)
+        next.run = run;
+        next
     }
 
-    // All packets are held: the body comes with the answer, and runs if it was accepted.
-    fn releases(self, whole: Collection, len: usize, verdict: Verdict) -> Received
-        requires { ⌜ Whole whole × ((len ≡ length (joinedOf (whole .lens) (whole .room))) × (verdict ≡ judgeOf (joinedOf (whole .lens) (whole .room)))) ⌝ }
-        ensures { λ r. ⌜ r ≡ releasedOf self whole ⌝ }
+    // The room is emptied.
+    fn emptied(self) -> Sign
+        ensures { λ r. ⌜ r ≡ emptiedOf self ⌝ }
     {
-        let body = whole.room;
-        let run = self.run;
-        let behind = starts(verdict, body, len, run);
-        let none = begun(0, 0);
-        let sign = Sign {
-            last: whole.id,
-            collection: none,
-            run: behind,
-        };
-        Received {
-            sign,
-            outcome: Outcome::Released(verdict),
-            body,
-            len,
+        let mut next = self;
+        next.room = [0; 84];
+        next
+    }
+
+    // A body of this verdict runs if it was accepted, and leaves the room otherwise.
+    fn starts(self, verdict: Verdict, len: usize) -> Sign
+        ensures { λ r. ⌜ r ≡ startsOf verdict (runningOf self len) (emptiedOf self) ⌝ }
+    {
+        match verdict {
+            Verdict::Finite => self.running(len),
+            Verdict::Endless => self.running(len),
+            Verdict::Refused(_, _) => self.emptied(),
         }
     }
 
-    // The record behind what was heard.
-    fn behind(self, heard: Heard) -> Received
-        requires { ⌜ Sure heard ⌝ }
-        ensures { λ r. ⌜ r ≡ behindOf self (heard .collection) (heard .outcome) ⌝ }
+    // The record after an outcome, where hearing left all but the run as it stands here, and a released body's length.
+    fn after(self, outcome: Outcome, len: usize) -> Received
+        ensures { λ r. ⌜ r ≡ behindOf outcome self len ⌝ }
     {
-        let outcome = heard.outcome;
-        let collection = heard.collection;
         match outcome {
             Outcome::Query => self.stays(outcome),
             Outcome::Reset => {
                 let settings = self.run.settings;
-                let next = fresh(settings.dim, settings.bright);
+                let run = rested(settings.dim, settings.bright);
+                let mut next = self;
+                next.run = run;
                 next.stays(outcome)
             }
             Outcome::Repeat => self.stays(outcome),
-            Outcome::Stored => self.stores(collection),
-            Outcome::Released(verdict) => self.releases(collection, heard.len, verdict),
+            Outcome::Stored => self.stays(outcome),
+            Outcome::Released(verdict) => {
+                let body = self.room;
+                Received {
+                    sign: self.starts(verdict, len),
+                    outcome,
+                    body,
+                    len,
+                }
+            }
             Outcome::Refused(_) => self.stays(outcome),
         }
     }
@@ -114,12 +103,21 @@ impl Sign {
     pub fn receive(self, mid: u8, bytes: &[u8]) -> Received
         ensures { λ r. ⌜ r ≡ receiveOf self mid (now (bytes .entry)) ⌝ }
     {
+        let slots = self.slots;
         let run = self.run;
-        let collection = self.collection;
-        if !run.sound() {
+        let mut room = self.room;
+        if !run.sound(&room) {
             return self.stays(Outcome::Refused(16));
         }
-        let heard = hear(self.last, collection, self.run.len, mid, bytes);
-        self.behind(heard)
+        let heard = hear(self.last, slots, self.run.len, &mut room, mid, bytes);
+        let outcome = heard.outcome;
+        let left = heard.slots;
+        let next = Sign {
+            last: heard.last,
+            slots: left,
+            room,
+            run,
+        };
+        next.after(outcome, heard.len)
     }
 }

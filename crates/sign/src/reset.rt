@@ -8,30 +8,38 @@ use machine::Loop;
 use machine::Run;
 use perform::Settings;
 ghost use mathlib.Core.Path.{_≡_};
-ghost use Rattle.sign.specs.Reset.{freshOf, clearedOf, powerOn};
+ghost use Rattle.machine.specs.Step.{readyOf};
+ghost use Rattle.sign.specs.Reset.{startSettings, freshOf, clearedOf, powerOn};
 
-// The record that a reset leaves where threshold and brightness are these.
-pub fn fresh(dim: u8, bright: u8) -> Sign
-    ensures { λ r. ⌜ r ≡ freshOf dim bright ⌝ }
+// A run that is Ready with the settings of a reset, where threshold and brightness are these.
+pub(crate) fn rested(dim: u8, bright: u8) -> Run
+    ensures { λ r. ⌜ r ≡ readyOf (startSettings dim bright) ⌝ }
 {
     let settings = Settings {
         pace: 4,
         scans: 1,
-        sink: false,
+        sink: 0,
         dim,
         bright,
     };
-    let run = Run {
-        body: [0; 84],
+    Run {
         len: 0,
         place: 0,
         inner: Loop { place: 0, left: 0 },
         settings,
-    };
-    let collection = begun(0, 0);
+    }
+}
+
+// The record that a reset leaves where threshold and brightness are these.
+fn fresh(dim: u8, bright: u8) -> Sign
+    ensures { λ r. ⌜ r ≡ freshOf dim bright ⌝ }
+{
+    let slots = begun(0, 0);
+    let run = rested(dim, bright);
     Sign {
         last: 0x41,
-        collection,
+        slots,
+        room: [0; 84],
         run,
     }
 }
@@ -44,7 +52,7 @@ impl Sign {
         fresh(16, 0)
     }
 
-    // The record behind a reset; 16 for an unsound one.
+    // The record after a reset; 16 for an unsound one.
     pub fn reset(self) -> Cleared
         ensures { λ r. ⌜ r ≡ clearedOf self ⌝ }
     {

@@ -10,11 +10,12 @@ impl Sign {
     pub fn sound(self) -> bool
         ensures { λ r. ⌜ r ≡ soundOf self ⌝ }
     {
+        let slots = self.slots;
+        let room = self.room;
         let run = self.run;
-        let collection = self.collection;
-        if !framed(self.last, collection, self.run.len) {
+        if !framed(self.last, slots, &room, self.run.len) {
             return false;
         }
-        run.sound()
+        run.sound(&room)
     }
 }

@@ -3,12 +3,11 @@
 use crate::Sign;
 use packet::Written;
 use reply::write_reply;
-ghost use Rattle.machine.specs.Sound.{bodyOf};
 ghost use Rattle.packet.specs.Write.{Writes};
-ghost use Rattle.sign.specs.Tell.{saysOf, toldRows};
+ghost use Rattle.sign.specs.Tell.{saysOf, runningBody, toldRows};
 
 impl Sign {
-    // Lays the reply to a query, with the AUX pin as the caller reads it.
+    // Writes the reply to a query, with the AUX pin as the caller reads it.
     pub fn reply(self, mid: u8, aux: bool, out: &mut [u8]) -> Written
         ensures { λ r. ⌜ Writes (toldRows self (saysOf self mid aux) (now (out .entry))) (saysOf self mid aux) (now (out .entry)) r (now (out .exit)) ⌝ }
     {
@@ -21,18 +20,17 @@ impl Sign {
 
     // Copies the running body to the buffer's front, and tells its length.
     pub fn copy_body(self, out: &mut [u8]) -> Written
-        ensures { λ r. ⌜ Writes (toldRows self (bodyOf (self .run)) (now (out .entry))) (bodyOf (self .run)) (now (out .entry)) r (now (out .exit)) ⌝ }
+        ensures { λ r. ⌜ Writes (toldRows self (runningBody self) (now (out .entry))) (runningBody self) (now (out .entry)) r (now (out .exit)) ⌝ }
     {
         if !self.sound() {
             return Written::Refused(16);
         }
-        let run = self.run;
-        let body = run.body;
-        let len = run.len;
+        let room = self.room;
+        let len = self.run.len;
         if out.len() < len {
             return Written::Refused(34);
         }
-        bytes::copy(&body[..len], out);
+        bytes::copy(&room[..len], out);
         Written::Wrote(len)
     }
 }

@@ -1,4 +1,4 @@
--- Words laid one behind the other, read back, and told.
+-- Words written one after the other, read back, and told.
 use Prim.Native.Nat.{ℕ, _+_, _*_, _-_, _/_, _%_, _≤_, _<_}
 use mathlib.Core.List.{List, [], _∷_, _++_}
 use mathlib.Core.Path.{_≡_, refl, sym, ap, _∙_}
@@ -7,15 +7,19 @@ use native.Mathlib.Omega.{arith}
 use native.Mathlib.Numerals.{add-one}
 use lib.ListN.{length, take, drop, getD}
 use lib.Seq.{take-all, take-suc, length-take-le}
-use lib.Dec.{ltb}
+use lib.Dec.{ltb, eqb}
 use mir.Val.{boolByte}
-use borrow.Author.Tests.{lt-ltb, le-ltb}
+use borrow.Author.Tests.{lt-ltb, le-ltb, eq-eqb, ne-eqb}
 use borrow.Rule.Slice.PartMut.{putMid}
 use Rattle.basis.specs.Bytes.{laid}
 use Rattle.basis.proofs.Choices.{when-true, when-false}
 use Rattle.basis.proofs.Laid.{laid-lent, length-laid}
 use Rattle.words.specs.Words.{wordOf, wordsOf, resultOf}
+use Rattle.hear.specs.Hear.{numberOf}
+use Rattle.hear.specs.declared.Outcome.{Outcome}
+use Rattle.hear.specs.declared.Outcome.the-variants.{Query, Reset, Repeat, Stored, Released, Refused}
 use Rattle.words.specs.Told.{answerRow, firstOr, toldIn, flagOf}
+use Rattle.words.specs.Says.{outcomeOf, programOf, placeOf, receivedBytes}
 
 -- a word is four bytes
 pub words-length : (ws : List ℕ) → length (wordsOf ws) ≡ 4 * length ws
@@ -97,3 +101,47 @@ heard-lays last true true answer = refl
 heard-lays last true false answer = refl
 heard-lays last false true answer = refl
 heard-lays last false false answer = refl
+
+-- an answer with room is not 252
+pub row-past : (size : ℕ) (answer : List ℕ) (n : ℕ) → size ≤ length answer → n ≡ firstOr (answerRow size answer ∷ []) n
+row-past size answer n room = sym (when-false (ltb (length answer) size) 252 n (le-ltb (length answer) size room))
+
+-- an outcome that is told something is no refusal
+pub told-yes : (o : Outcome) → (outcomeOf o ≡ 0 → ⊥) → numberOf o ≡ 0
+told-yes Query h = refl
+told-yes Reset h = refl
+told-yes Repeat h = refl
+told-yes Stored h = refl
+told-yes (Released v) h = refl
+told-yes (Refused n) h = absurd (h refl)
+
+-- four words, and a body copied after them
+pub received-lays : (o : Outcome) (body : List ℕ) (len : ℕ) (answer f y : List ℕ) (p q r : ℕ) → 100 ≤ length answer → p ≡ outcomeOf o → (p ≡ 0 → ⊥)
+    → q ≡ programOf o
+    → r ≡ placeOf o
+    → f ≡ toldIn 16 (wordsOf (p ∷ q ∷ r ∷ len ∷ [])) answer
+    → y ≡ take (length body) body ++ drop (length body) (take (length f - 16) (drop 16 f))
+    → putMid 16 (length f - 16) f y ≡ toldIn 100 (receivedBytes o body len) answer
+unfolding laid
+received-lays o body len answer f y p q r room ep yes′ eq er ef ey =
+    let ws = p ∷ q ∷ r ∷ len ∷ [] in
+    let us = outcomeOf o ∷ programOf o ∷ placeOf o ∷ len ∷ [] in
+    let same : ws ≡ us = rw (ep, eq, er) in
+    let whole : length body ≤ length body = omega arith in
+    let at : 16 ≡ length (wordsOf ws) = sym (words-length ws) in
+    let fits : length (wordsOf ws) ≤ length answer = omega arith in
+    let some : 16 ≤ length answer = omega arith in
+    let told : wordsOf us ++ body ≡ receivedBytes o body len = sym (when-false (eqb (outcomeOf o) 0) [] (wordsOf us ++ body) (ne-eqb (outcomeOf o) 0 (λ z. yes′ (ep ∙ z)))) in
+    laid-lent 16 (wordsOf ws) body answer f y at fits (ef ∙ sym (told-room 16 (wordsOf ws) answer some))
+    (ey ∙ ap (λ (b : List ℕ). b ++ drop (length body) (take (length f - 16) (drop 16 f))) (take-all (length body) body whole))
+    ∙ ap (λ (v : List ℕ). laid (wordsOf v ++ body) answer) same
+    ∙ ap (λ (x : List ℕ). laid x answer) told
+    ∙ told-room 100 (receivedBytes o body len) answer room
+
+-- nothing, where it is refused
+pub refused-lays : (o : Outcome) (body : List ℕ) (len : ℕ) (answer : List ℕ) → 100 ≤ length answer → outcomeOf o ≡ 0
+    → answer ≡ toldIn 100 (receivedBytes o body len) answer
+refused-lays o body len answer room none =
+    told-none 100 answer room
+    ∙ ap (λ (x : List ℕ). toldIn 100 x answer)
+    (sym (when-true (eqb (outcomeOf o) 0) [] (wordsOf (outcomeOf o ∷ programOf o ∷ placeOf o ∷ len ∷ []) ++ body) (eq-eqb (outcomeOf o) 0 none)))

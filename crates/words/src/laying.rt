@@ -6,7 +6,7 @@ ghost use Rattle.basis.specs.Bytes.{laid};
 ghost use Rattle.words.specs.Words.{wordOf, wordsOf};
 ghost use Rattle.words.specs.Told.{toldIn};
 
-// Lays one word at the buffer's front.
+// Writes one word at the buffer's front.
 fn put(word: u64, out: &mut [u8])
     requires { ⌜ 4 ≤ length (now out) ⌝ }
     ensures { λ _. ⌜ now (out .exit) ≡ laid (wordOf word) (now (out .entry)) ⌝ }
@@ -17,8 +17,8 @@ fn put(word: u64, out: &mut [u8])
     out[3] = (word / 16777216 % 256) as u8;
 }
 
-// Lays words in a row at the buffer's front, if it has room for all.
-pub fn lay(words: &[u64], out: &mut [u8])
+// Writes words in a row at the buffer's front, if it has room for all.
+pub(crate) fn lay(words: &[u64], out: &mut [u8])
     ensures { λ _. ⌜ now (out .exit) ≡ toldIn (4 * length (now (words .entry))) (wordsOf (now (words .entry))) (now (out .entry)) ⌝ }
 {
     if out.len() / 4 < words.len() {

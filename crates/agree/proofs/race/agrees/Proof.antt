@@ -1,4 +1,4 @@
--- `agrees` lends the used part of the body, which lies within it.
+-- `agrees` lends the used part of the body, which lies within it, and then all of it as the run's room.
 use mathlib.Core.Path.{_≡_, sym}
 use native.Mathlib.Omega.{arith}
 use lib.ListN.{length}
@@ -27,6 +27,9 @@ forecast-requires c κs = search needs
 
 set-requires : tie.Need-set-requires
 set-requires c κs = search needs
+
+slice-aggregate-stepped : tie.Need-slice-aggregate-stepped
+slice-aggregate-stepped c = search needs
 
 stepped-requires : tie.Need-stepped-requires
 stepped-requires c κs = search needs
@@ -64,6 +67,7 @@ agrees-spec =
     slice-aggregate-forecast
     forecast-requires
     set-requires
+    slice-aggregate-stepped
     stepped-requires
     enum-known-told
     same-requires

@@ -5,10 +5,10 @@ use Rattle.agree.proofs.race.stepped.Statement.{statement}
 use Rattle.agree.proofs.race.stepped.Tie as tie
 
 abbrev Inv-loop : tie.InvT-loop
-Inv-loop run₀ totals₀ i₀ run totals i = i ≤ 4000
+Inv-loop room run₀ totals₀ i₀ run totals i = i ≤ 4000
 
 abbrev μ-loop : tie.MeasureT-loop
-μ-loop run₀ totals₀ i₀ run totals i = 4000 - i
+μ-loop room run₀ totals₀ i₀ run totals i = 4000 - i
 
 none-requires : tie.Need-none-requires Inv-loop μ-loop
 none-requires c κs = search needs

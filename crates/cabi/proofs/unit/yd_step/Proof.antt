@@ -1,55 +1,44 @@
--- `yd_step` lays what the run in the image left; a refusal leaves image and answer.
-use mathlib.Core.List.{[]}
-use mathlib.Core.Path.{refl}
-use borrow.Author.Tests.{not-true, not-false}
-use Rattle.basis.specs.Bytes.{laid}
-use Rattle.machine.specs.declared.Answer.the-variants.{Refused}
-use Rattle.image.specs.Layout.{recordOf}
+-- `yd_step` takes the record out of the image, and puts the next one back; a refusal leaves image and answer.
+use mathlib.Core.Path.{_≡_, ap, subst, _∙_}
+use mathlib.Core.List.{[], _∷_}
+use Rattle.machine.specs.Step.{numberOf}
+use Rattle.image.specs.Layout.{imageOf, recordOf}
+use Rattle.sign.specs.Step.{stepOf}
+use Rattle.sign.specs.declared.Stepped.{Stepped}
 use Rattle.words.specs.Words.{wordsOf}
-use Rattle.cabi.proofs.Lays.{step-answers, run-answers, no-answers}
-use Rattle.cabi.proofs.Parts.{unframed-parts, stepped-parts}
-use Rattle.basis.proofs.Tests.{tests}
+use Rattle.words.specs.Told.{answerRow, firstOr, toldIn}
+use Rattle.words.specs.Says.{stepWords}
+use Rattle.cabi.proofs.Lays.{unsized, too-short, refused-went, told-went, ill-steps, quiet-step}
 use borrow.Author.Needs.{needs}
 use Rattle.cabi.proofs.unit.yd_step.Statement.{statement}
 use Rattle.cabi.proofs.unit.yd_step.Tie as tie
 
 returns : tie.Need-returns
-returns c = search tests
+returns c =
+    let a = c .before .before .before .args in
+    let y = stepOf (recordOf (a .image .now)) in
+    unsized 28 (a .image .now) (a .answer .now) (numberOf (y .answer)) (wordsOf (stepWords (y .answer))) (imageOf (y .sign)) (c .if1 .taken)
 
-returns-2 : tie.Need-returns-2
-returns-2 c = search tests
+load-requires : tie.Need-load-requires
+load-requires c κs = search needs
 
-lent-requires : tie.Need-lent-requires
-lent-requires c κs = search needs
-
-run-of-requires : tie.Need-run-of-requires
-run-of-requires c κs = search needs
-
-collection-of-requires : tie.Need-collection-of-requires
-collection-of-requires c κs = search needs
-
-array-read-framed : tie.Need-array-read-framed
-array-read-framed c = search needs
-
-framed-requires : tie.Need-framed-requires
-framed-requires c κs = search needs
+short-requires : tie.Need-short-requires
+short-requires c κs = search needs
 
 same-length : tie.Need-same-length
 same-length c = search needs
 
-returns-3 : tie.Need-returns-3
-unfolding laid wordsOf
-returns-3 c =
-    let a = c .before .before .before .before .before .before .before .before .before .before .args in
-    let s = recordOf (a .image .now) in
-    let no = unframed-parts (a .image .now) (c .before .before .before .before .lent .result) (c .before .before .before .run-of .result) (c .before .before .collection-of .result) (c .before .before .before .before .before .before .before .if1 .left) (c .before .before .before .before .lent .ensures) (c .before .before .before .run-of .ensures) (c .before .before .collection-of .ensures) _ (c .before .framed .ensures) (not-true _ (c .if3 .taken)) in
-    step-answers (a .image .now) (a .answer .now) (record { sign = s; answer = Refused 16 }) no (no-answers 28 16 (a .image .now) (a .answer .now) (laid (wordsOf []) (a .answer .now)) (c .before .before .before .before .before .before .before .if1 .left) (c .before .before .before .before .before .before .if2 .left) refl)
+returns-2 : tie.Need-returns-2
+returns-2 c =
+    let a = c .before .before .before .before .before .before .before .args in
+    let y = stepOf (recordOf (a .image .now)) in
+    too-short 28 (a .image .now) (a .answer .now) (numberOf (y .answer)) (wordsOf (stepWords (y .answer))) (imageOf (y .sign)) (c .before .before .load .result) (c .short .result) (c .before .before .before .before .if1 .left) (c .before .if2 .taken) (c .before .before .load .ensures) (c .short .ensures)
 
 step-requires : tie.Need-step-requires
 step-requires c κs = search needs
 
-lay-stepped-requires : tie.Need-lay-stepped-requires
-lay-stepped-requires c κs = search needs
+tell-stepped-requires : tie.Need-tell-stepped-requires
+tell-stepped-requires c κs = search needs
 
 same-length-2 : tie.Need-same-length-2
 same-length-2 c = search needs
@@ -57,28 +46,46 @@ same-length-2 c = search needs
 same-length-3 : tie.Need-same-length-3
 same-length-3 c = search needs
 
+returns-3 : tie.Need-returns-3
+returns-3 c =
+    let a = c .before .before .before .before .before .before .before .before .before .before .before .before .args in
+    let y = stepOf (recordOf (a .image .now)) in
+    let e = c .before .before .before .before .before .step .ensures ∙ ap stepOf (c .before .before .before .before .before .before .before .load .ensures) in
+    let t = subst (λ (x : Stepped). (c .before .before .before .tell-stepped .result ≡ firstOr (answerRow 28 (a .answer .now) ∷ []) (numberOf (x .answer))) × (c .before .before .before .tell-stepped .last .1 .0 ≡ toldIn 28 (wordsOf (stepWords (x .answer))) (a .answer .now))) e (c .before .before .before .tell-stepped .ensures) in
+    refused-went 28 (a .image .now) (a .answer .now) (numberOf (y .answer)) (wordsOf (stepWords (y .answer))) (imageOf (y .sign)) (c .before .before .before .before .before .before .before .before .before .if1 .left) (c .before .before .before .before .before .before .if2 .left) (ill-steps (a .image .now)) (t .0) (t .1) (quiet-step (y .answer)) (c .if3 .taken)
+
+store-requires : tie.Need-store-requires
+store-requires c κs = search needs
+
+same-length-4 : tie.Need-same-length-4
+same-length-4 c = search needs
+
+same-length-5 : tie.Need-same-length-5
+same-length-5 c = search needs
+
 returns-4 : tie.Need-returns-4
 returns-4 c =
-    let a = c .before .before .before .before .before .before .before .before .before .before .before .before .before .before .before .before .before .before .args in
-    let w = c .before .before .before .before .before .before .before .step .result in
-    let went = stepped-parts (a .image .now) (c .before .before .before .before .before .before .before .before .before .before .before .before .lent .result) (c .before .before .before .before .before .before .before .before .before .before .before .run-of .result) (c .before .before .before .before .before .before .before .before .before .before .collection-of .result) (c .before .before .before .before .before .before .before .before .before .before .before .before .before .before .before .if1 .left) (c .before .before .before .before .before .before .before .before .before .before .before .before .lent .ensures) (c .before .before .before .before .before .before .before .before .before .before .before .run-of .ensures) (c .before .before .before .before .before .before .before .before .before .before .collection-of .ensures) _ w (c .before .before .before .before .before .before .before .before .before .framed .ensures) (not-false _ (c .before .before .before .before .before .before .before .before .if3 .left)) (c .before .before .before .before .before .before .before .step .ensures) in
-    run-answers (a .image .now) (a .answer .now) w (c .before .before .before .before .before .before .before .before .before .before .before .before .before .before .before .if1 .left) (c .before .before .before .before .before .before .before .before .before .before .before .before .before .before .if2 .left) went (c .before .before .before .before .lay-stepped .ensures)
+    let a = c .before .before .before .before .before .before .before .before .before .before .before .before .before .before .before .before .before .args in
+    let y = stepOf (recordOf (a .image .now)) in
+    let e = c .before .before .before .before .before .before .before .before .before .before .step .ensures ∙ ap stepOf (c .before .before .before .before .before .before .before .before .before .before .before .before .load .ensures) in
+    let t = subst (λ (x : Stepped). (c .before .before .before .before .before .before .before .before .tell-stepped .result ≡ firstOr (answerRow 28 (a .answer .now) ∷ []) (numberOf (x .answer))) × (c .before .before .before .before .before .before .before .before .tell-stepped .last .1 .0 ≡ toldIn 28 (wordsOf (stepWords (x .answer))) (a .answer .now))) e (c .before .before .before .before .before .before .before .before .tell-stepped .ensures) in
+    told-went 28 (a .image .now) (a .answer .now) (numberOf (y .answer)) (wordsOf (stepWords (y .answer))) (imageOf (y .sign)) (c .before .before .before .before .before .before .before .before .before .before .before .before .before .before .if1 .left) (c .before .before .before .before .before .before .before .before .before .before .before .if2 .left) (ill-steps (a .image .now)) (t .0) (t .1) _ (c .before .before .before .before .before .if3 .left) (c .before .before .store .ensures ∙ ap (λ (x : Stepped). imageOf (x .sign)) e)
 
 pub yd-step-spec : {M : Type 1} → statement M
 yd-step-spec =
     tie.close
     (tie.spec
     returns
-    returns-2
-    lent-requires
-    run-of-requires
-    collection-of-requires
-    array-read-framed
-    framed-requires
+    load-requires
+    short-requires
     same-length
-    returns-3
+    returns-2
     step-requires
-    lay-stepped-requires
+    tell-stepped-requires
     same-length-2
     same-length-3
+    returns-3
+    store-requires
+    same-length-4
+    same-length-5
     returns-4)

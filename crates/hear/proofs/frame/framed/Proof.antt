@@ -1,4 +1,4 @@
--- `framed` tests part after part; the first that fails decides.
+-- `framed` asks the last ID, then slots and room by Ready or Busy.
 use Rattle.basis.proofs.Tests.{tests}
 use borrow.Author.Tests.{not-true, not-false}
 use mathlib.Core.Path.{sym, _∙_}
@@ -16,13 +16,14 @@ sound-requires : tie.Need-sound-requires
 sound-requires c κs = search needs
 
 returns-2 : tie.Need-returns-2
-returns-2 c = search (tests, sym (c .before .before .before .is-last .ensures) ∙ not-false _ (c .before .before .if1 .left), sym (c .before .sound .ensures) ∙ not-true _ (c .if2 .taken))
+returns-2 c = search (tests, sym (c .before .before .before .is-last .ensures) ∙ not-false _ (c .before .before .if1 .left), c .sound .ensures)
+
+none-requires : tie.Need-none-requires
+none-requires c κs = search needs
 
 returns-3 : tie.Need-returns-3
-returns-3 c = search (tests, sym (c .before .before .before .before .is-last .ensures) ∙ not-false _ (c .before .before .before .if1 .left), sym (c .before .before .sound .ensures) ∙ not-false _ (c .before .if2 .left))
-
-returns-4 : tie.Need-returns-4
-returns-4 c = search (tests, sym (c .before .before .before .before .before .is-last .ensures) ∙ not-false _ (c .before .before .before .before .if1 .left), sym (c .before .before .before .sound .ensures) ∙ not-false _ (c .before .before .if2 .left))
+returns-3 c = search (tests, sym (c .before .before .before .is-last .ensures) ∙ not-false _ (c .before .before .if1 .left), c .none .ensures)
 
 pub framed-spec : {M : Type 1} → statement M
-framed-spec = tie.close (tie.spec is-last-requires returns sound-requires returns-2 returns-3 returns-4)
+framed-spec =
+    tie.close (tie.spec is-last-requires returns sound-requires returns-2 none-requires returns-3)

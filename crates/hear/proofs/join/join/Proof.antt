@@ -1,5 +1,7 @@
--- `join` judges in 01's order: Repeat, 12, then by the collection that the packet goes into.
+-- `join` judges in 01's order: Repeat, 12, then by the slots that the packet goes into.
 use Rattle.basis.proofs.Tests.{tests}
+use Rattle.collect.specs.Slots.{collectionOf}
+use Rattle.hear.specs.Join.{leftOf}
 use Rattle.hear.proofs.Joining.{taking-slots, join-into}
 use borrow.Author.Needs.{needs}
 use Rattle.hear.proofs.join.join.Statement.{statement}
@@ -22,15 +24,15 @@ taking-requires c κs = search needs
 
 goes-into-requires : tie.Need-goes-into-requires
 goes-into-requires c κs =
-    let a = c .before .before .before .before .args in
-    (taking-slots (a .last) (a .collection) (a .id) (a .total) (c .taking .result) (c .before .before .before .before .pre .0) (c .taking .ensures), c .before .before .before .before .pre .1)
+    let a = c .before .before .before .before .before .before .args in
+    (taking-slots (a .last) (collectionOf (a .slots) (a .room .now)) (a .id) (a .total) (collectionOf (c .before .taking .result) (c .before .taking .last .1 .0)) (c .before .before .before .before .before .before .pre .0 (search needs)) (c .before .taking .ensures), c .before .before .before .before .before .before .pre .1)
 
 returns-3 : tie.Need-returns-3
 returns-3 c =
-    let a = c .before .before .before .before .before .args in
-    join-into (a .last) (a .collection) (a .len) (a .id) (a .total) (a .position) (a .part .now) (c .before .taking .result) (c .goes-into .result) (c .before .before .before .before .before .pre .1) (c .before .before .before .if1 .left)
+    let a = c .before .before .before .before .before .before .before .args in
+    join-into (a .last) (collectionOf (a .slots) (a .room .now)) (a .len) (a .id) (a .total) (a .position) (a .part .now) (collectionOf (c .before .before .taking .result) (c .before .before .taking .last .1 .0)) (leftOf (c .goes-into .result) (c .goes-into .last .1 .1 .0)) (c .before .before .before .before .before .before .before .pre .1) (c .before .before .before .before .before .if1 .left)
     (search needs)
-    (c .before .taking .ensures)
+    (c .before .before .taking .ensures)
     (c .goes-into .ensures)
 
 pub join-spec : {M : Type 1} → statement M

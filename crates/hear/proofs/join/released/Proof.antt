@@ -1,10 +1,15 @@
--- `released` takes the room as it stands: of a whole collection it is the joined data with zeros behind.
-use Rattle.hear.proofs.Places.{whole-len, whole-size, whole-body, whole-heard}
-use Rattle.judge.specs.Verdict.{judgeOf}
-use lib.Seq.{length-take-le}
-use lib.ListN.{length}
-use native.Mathlib.Omega.{arith}
+-- `released` takes the room as it stands: of a whole collection it is the joined data with zeros after it.
+use Prim.Native.Nat.{ℕ, _+_, _-_, _*_}
 use mathlib.Core.Path.{_≡_, sym, ap, _∙_}
+use native.Mathlib.Omega.{arith}
+use lib.ListN.{length, getD}
+use lib.Seq.{length-take-le}
+use Rattle.judge.specs.Verdict.{judgeOf}
+use Rattle.collect.specs.Slots.{begunOf, collectionOf}
+use Rattle.collect.specs.declared.Slots.{Slots}
+use Rattle.hear.specs.Join.{Left, wholeOf}
+use Rattle.hear.specs.declared.Outcome.the-variants.{Released}
+use Rattle.hear.proofs.Places.{whole-len, whole-size, whole-room, whole-body, whole-left}
 use borrow.Author.Needs.{needs}
 use Rattle.hear.proofs.join.released.Statement.{statement}
 use Rattle.hear.proofs.join.released.Tie as tie
@@ -26,35 +31,33 @@ cast-len c = search needs
 
 add-len : tie.Need-add-len
 add-len c =
-    let k = c .before .before .before .args .collection in
-    let l : length (k .lens) ≡ 6 = search needs in
-    let r : length (k .room) ≡ 84 = search needs in
-    omega (arith, whole-len k l r (c .before .before .before .pre))
-
-array-share-prefix-body : tie.Need-array-share-prefix-body
-array-share-prefix-body c =
-    let k = c .before .before .before .args .collection in
-    let l : length (k .lens) ≡ 6 = search needs in
-    let r : length (k .room) ≡ 84 = search needs in
-    omega (arith, whole-len k l r (c .before .before .before .pre))
+    let a = c .before .before .before .args in
+    let l : length (a .slots .lens) ≡ 6 = search needs in
+    omega (arith, whole-len (collectionOf (a .slots) (a .room .now)) l (c .before .before .before .pre .1) (c .before .before .before .pre .0))
 
 slice-aggregate-judge : tie.Need-slice-aggregate-judge
 slice-aggregate-judge c =
-    let k = c .before .before .before .before .args .collection in
-    let l : length (k .lens) ≡ 6 = search needs in
-    let r : length (k .room) ≡ 84 = search needs in
-    sym (length-take-le _ (k .room) (omega (arith, whole-len k l r (c .before .before .before .before .pre))))
+    let a = c .before .before .before .before .args in
+    let l : length (a .slots .lens) ≡ 6 = search needs in
+    sym (length-take-le _ (a .room .now) (omega (arith, whole-len (collectionOf (a .slots) (a .room .now)) l (c .before .before .before .before .pre .1) (c .before .before .before .before .pre .0), c .before .before .before .before .pre .1)))
 
 judge-requires : tie.Need-judge-requires
 judge-requires c κs = search needs
 
+begun-requires : tie.Need-begun-requires
+begun-requires c κs = search needs
+
 returns : tie.Need-returns
+unfolding begunOf
 returns c =
-    let k = c .before .before .before .before .before .args .collection in
-    let l : length (k .lens) ≡ 6 = search needs in
-    let r : length (k .room) ≡ 84 = search needs in
-    let w = c .before .before .before .before .before .pre in
-    whole-heard k (c .judge .result) _ (c .judge .ensures ∙ ap judgeOf (whole-body k l r w)) (sym (whole-size k l r w))
+    let a = c .before .before .before .before .before .before .args in
+    let k = collectionOf (a .slots) (a .room .now) in
+    let l : length (a .slots .lens) ≡ 6 = search needs in
+    let r = c .before .before .before .before .before .before .pre .1 in
+    let w = c .before .before .before .before .before .before .pre .0 in
+    let n = 14 * (a .slots .total - 1) + getD (a .slots .lens) (a .slots .total - 1) 0 in
+    ap (λ (s : Slots). record { outcome = Released (c .before .judge .result); last = a .slots .id; collection = collectionOf s (a .room .now); len = n }) (c .begun .ensures)
+    ∙ whole-left k (c .before .judge .result) n (whole-room k l r w) (c .before .judge .ensures ∙ ap judgeOf (whole-body k l r w)) (sym (whole-size k l r w))
 
 pub released-spec : {M : Type 1} → statement M
 released-spec =
@@ -66,7 +69,7 @@ released-spec =
     array-read-len
     cast-len
     add-len
-    array-share-prefix-body
     slice-aggregate-judge
     judge-requires
+    begun-requires
     returns)

@@ -1,21 +1,126 @@
--- `record_of` reads the last ID and puts the two parts beside it.
-use borrow.Author.Needs.{needs}
+-- `record_of` copies the two arrays out and reads the other bytes at their places.
+use mathlib.Core.Path.{_≡_}
+use native.Mathlib.Omega.{arith}
+use lib.ListN.{length, take, drop}
+use Rattle.basis.proofs.Bytes.{cut-length}
 use Rattle.image.specs.Layout.{recordOf}
+use Rattle.image.proofs.Copies.{filled}
+use borrow.Author.Needs.{needs}
 use Rattle.image.proofs.layout.record_of.Statement.{statement}
 use Rattle.image.proofs.layout.record_of.Tie as tie
 
-array-read-t5 : tie.Need-array-read-t5
-array-read-t5 c = search needs
+sub-copy : tie.Need-sub-copy
+sub-copy c = search needs
 
-collection-of-requires : tie.Need-collection-of-requires
-collection-of-requires c κs = search needs
+part-copy-start : tie.Need-part-copy-start
+part-copy-start c = search needs
 
-run-of-requires : tie.Need-run-of-requires
-run-of-requires c κs = search needs
+part-copy-end : tie.Need-part-copy-end
+part-copy-end c = search needs
+
+slice-aggregate-copy : tie.Need-slice-aggregate-copy
+slice-aggregate-copy c = search needs
+
+copy-requires : tie.Need-copy-requires
+copy-requires c κs = search needs
+
+sub-copy-2 : tie.Need-sub-copy-2
+sub-copy-2 c = search needs
+
+part-copy-start-2 : tie.Need-part-copy-start-2
+part-copy-start-2 c = search needs
+
+part-copy-end-2 : tie.Need-part-copy-end-2
+part-copy-end-2 c = search needs
+
+slice-aggregate-copy-2 : tie.Need-slice-aggregate-copy-2
+slice-aggregate-copy-2 c = search needs
+
+copy-requires-2 : tie.Need-copy-requires-2
+copy-requires-2 c κs = search needs
+
+array-read-len : tie.Need-array-read-len
+array-read-len c = search needs
+
+cast-len : tie.Need-cast-len
+cast-len c = search needs
+
+array-read-place : tie.Need-array-read-place
+array-read-place c = search needs
+
+cast-place : tie.Need-cast-place
+cast-place c = search needs
+
+array-read-behind : tie.Need-array-read-behind
+array-read-behind c = search needs
+
+cast-behind : tie.Need-cast-behind
+cast-behind c = search needs
+
+array-read-t28 : tie.Need-array-read-t28
+array-read-t28 c = search needs
+
+array-read-t37 : tie.Need-array-read-t37
+array-read-t37 c = search needs
+
+array-read-t28-2 : tie.Need-array-read-t28-2
+array-read-t28-2 c = search needs
+
+array-read-t37-2 : tie.Need-array-read-t37-2
+array-read-t37-2 c = search needs
+
+array-read-t28-3 : tie.Need-array-read-t28-3
+array-read-t28-3 c = search needs
+
+array-read-t47 : tie.Need-array-read-t47
+array-read-t47 c = search needs
+
+array-read-t50 : tie.Need-array-read-t50
+array-read-t50 c = search needs
+
+array-read-t53 : tie.Need-array-read-t53
+array-read-t53 c = search needs
+
+array-read-t37-3 : tie.Need-array-read-t37-3
+array-read-t37-3 c = search needs
 
 returns : tie.Need-returns
 unfolding recordOf
-returns c = rw (c .before .collection-of .ensures, c .run-of .ensures)
+returns c =
+    let i = c .before .before .before .before .before .before .before .before .before .before .args .t1 in
+    let size : length i ≡ 102 = search (needs, c .before .before .before .before .before .before .before .before .before .before .good .0) in
+    rw (
+      filled (take 6 (drop 3 i)) _ _ (cut-length i 3 6 (omega arith)) (c .before .before .before .before .before .before .copy .ensures .1),
+      filled (take 84 (drop 9 i)) _ _ (cut-length i 9 84 (omega arith)) (c .before .copy2 .ensures .1),
+    )
 
 pub record-of-spec : {M : Type 1} → statement M
-record-of-spec = tie.close (tie.spec array-read-t5 collection-of-requires run-of-requires returns)
+record-of-spec =
+    tie.close
+    (tie.spec
+    sub-copy
+    part-copy-start
+    part-copy-end
+    slice-aggregate-copy
+    copy-requires
+    sub-copy-2
+    part-copy-start-2
+    part-copy-end-2
+    slice-aggregate-copy-2
+    copy-requires-2
+    array-read-len
+    cast-len
+    array-read-place
+    cast-place
+    array-read-behind
+    cast-behind
+    array-read-t28
+    array-read-t37
+    array-read-t28-2
+    array-read-t37-2
+    array-read-t28-3
+    array-read-t47
+    array-read-t50
+    array-read-t53
+    array-read-t37-3
+    returns)

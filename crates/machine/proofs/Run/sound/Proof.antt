@@ -1,44 +1,45 @@
--- `sound` asks what is tidy, then by rest or place and loop.
-use mathlib.Core.Path.{_≡_, sym, ap, _∙_}
-use native.Mathlib.Omega.{arith}
-use lib.ListN.{length}
+-- `sound` asks the settings, then by rest, or by room and place and loop.
+use mathlib.Core.Path.{sym, ap, _∙_}
 use lib.Seq.{length-take-le}
 use borrow.Author.Tests.{not-true, not-false}
 use Rattle.judge.specs.declared.Standing.{Standing}
 use Rattle.machine.specs.Sound.{heldOf}
-use Rattle.machine.proofs.Sounds.{untidy-sound, tidy-fits, tidy-resting, tidy-running}
+use Rattle.machine.proofs.Sounds.{unset, resting, unfilled, running, filled-fits}
 use borrow.Author.Needs.{needs}
 use Rattle.machine.proofs.Run.sound.Statement.{statement}
 use Rattle.machine.proofs.Run.sound.Tie as tie
 
-slice-aggregate-tidy : tie.Need-slice-aggregate-tidy
-slice-aggregate-tidy c = search needs
-
-tidy-requires : tie.Need-tidy-requires
-tidy-requires c κs = search needs
+sound-requires : tie.Need-sound-requires
+sound-requires c κs = search needs
 
 returns : tie.Need-returns
-returns c = sym (untidy-sound (c .before .before .before .before .before .before .args .self) (sym (c .before .tidy .ensures) ∙ not-true _ (c .if1 .taken)))
+returns c =
+    let a = c .before .before .before .before .before .args in
+    sym (unset (a .room .now) (a .self) (sym (c .before .sound .ensures) ∙ not-true _ (c .if1 .taken)))
 
 rests-requires : tie.Need-rests-requires
 rests-requires c κs = search needs
 
 returns-2 : tie.Need-returns-2
-returns-2 c = c .rests .ensures ∙ sym (tidy-resting (c .before .before .before .before .before .before .before .before .args .self) (sym (c .before .before .before .tidy .ensures) ∙ not-false _ (c .before .before .if1 .left)) (search needs))
+returns-2 c =
+    let a = c .before .before .before .before .before .before .before .args in
+    let set = sym (c .before .before .before .sound .ensures) ∙ not-false _ (c .before .before .if1 .left) in
+    c .rests .ensures ∙ sym (resting (a .room .now) (a .self) set (search needs))
 
-array-share-prefix-body : tie.Need-array-share-prefix-body
-array-share-prefix-body c =
-    let a = c .before .before .before .before .before .before .before .args .self in
-    let l : length (a .body) ≡ 84 = search needs in
-    let fits = tidy-fits a (sym (c .before .before .tidy .ensures) ∙ not-false _ (c .before .if1 .left)) in
-    omega arith
+filled-requires : tie.Need-filled-requires
+filled-requires c κs = search needs
+
+returns-3 : tie.Need-returns-3
+returns-3 c =
+    let a = c .before .before .before .before .before .before .before .before .args in
+    let set = sym (c .before .before .before .before .sound .ensures) ∙ not-false _ (c .before .before .before .if1 .left) in
+    sym (unfilled (a .room .now) (a .self) set (c .before .before .if2 .left) (sym (c .before .filled .ensures) ∙ not-true _ (c .if3 .taken)))
 
 slice-aggregate-stand : tie.Need-slice-aggregate-stand
 slice-aggregate-stand c =
-    let a = c .before .before .before .before .before .before .before .before .args .self in
-    let l : length (a .body) ≡ 84 = search needs in
-    let fits = tidy-fits a (sym (c .before .before .before .tidy .ensures) ∙ not-false _ (c .before .before .if1 .left)) in
-    sym (length-take-le (a .len) (a .body) (omega arith))
+    let a = c .before .before .before .before .before .before .before .before .before .args in
+    let full = sym (c .before .before .filled .ensures) ∙ not-false _ (c .before .if3 .left) in
+    sym (length-take-le (a .self .len) (a .room .now) (filled-fits (a .room .now) (a .self .len) full))
 
 stand-requires : tie.Need-stand-requires
 stand-requires c κs = search needs
@@ -46,24 +47,26 @@ stand-requires c κs = search needs
 held-requires : tie.Need-held-requires
 held-requires c κs = search needs
 
-returns-3 : tie.Need-returns-3
-returns-3 c =
-    let a = c .before .before .before .before .before .before .before .before .before .before .args .self in
+returns-4 : tie.Need-returns-4
+returns-4 c =
+    let a = c .before .before .before .before .before .before .before .before .before .before .before .args in
+    let set = sym (c .before .before .before .before .before .before .before .sound .ensures) ∙ not-false _ (c .before .before .before .before .before .before .if1 .left) in
+    let full = sym (c .before .before .before .before .filled .ensures) ∙ not-false _ (c .before .before .before .if3 .left) in
     c .held .ensures
-    ∙ ap (λ (x : Standing). heldOf x (a .inner)) (c .before .stand .ensures)
-    ∙ sym (tidy-running a (sym (c .before .before .before .before .before .tidy .ensures) ∙ not-false _ (c .before .before .before .before .if1 .left)) (search needs))
+    ∙ ap (λ (x : Standing). heldOf x (a .self .inner)) (c .before .stand .ensures)
+    ∙ sym (running (a .room .now) (a .self) set (c .before .before .before .before .before .if2 .left) full)
 
 pub sound-spec : {M : Type 1} → statement M
 sound-spec =
     tie.close
     (tie.spec
-    slice-aggregate-tidy
-    tidy-requires
+    sound-requires
     returns
     rests-requires
     returns-2
-    array-share-prefix-body
+    filled-requires
+    returns-3
     slice-aggregate-stand
     stand-requires
     held-requires
-    returns-3)
+    returns-4)

@@ -1,33 +1,29 @@
 -- `step` refuses an unsound run, rests when Ready, and goes on by what was read when Busy.
 use mathlib.Core.Bool.{true}
-use mathlib.Core.Path.{_≡_, refl, sym, ap, _∙_}
-use native.Mathlib.Omega.{arith}
-use lib.ListN.{length}
+use mathlib.Core.Path.{_≡_, sym, ap, _∙_}
 use lib.Seq.{length-take-le}
 use borrow.Author.Tests.{not-true, not-false}
 use Rattle.program.specs.Command.{readOf}
 use Rattle.judge.specs.Standing.{standOf}
 use Rattle.judge.specs.declared.Found.{Found}
 use Rattle.machine.specs.Sound.{bodyOf, heldOf}
-use Rattle.machine.specs.Step.{stepOf}
-use Rattle.machine.proofs.Sounds.{untidy-sound, tidy-fits, tidy-resting, tidy-running, held-seen}
-use Rattle.basis.proofs.Tests.{tests}
+use Rattle.machine.proofs.Keeps.{step-ready, step-busy, step-unsound}
+use Rattle.machine.proofs.Sounds.{unset, resting, unfilled, running, filled-fits, held-seen}
 use borrow.Author.Needs.{needs}
 use Rattle.machine.proofs.Run.step.Statement.{statement}
 use Rattle.machine.proofs.Run.step.Tie as tie
 
-slice-aggregate-tidy : tie.Need-slice-aggregate-tidy
-slice-aggregate-tidy c = search needs
-
-tidy-requires : tie.Need-tidy-requires
-tidy-requires c κs = search needs
+sound-requires : tie.Need-sound-requires
+sound-requires c κs = search needs
 
 unsound-requires : tie.Need-unsound-requires
 unsound-requires c κs = search needs
 
 returns : tie.Need-returns
-unfolding stepOf
-returns c = search (tests, untidy-sound (c .before .before .before .before .before .before .before .args .self) (sym (c .before .before .tidy .ensures) ∙ not-true _ (c .before .if1 .taken)), c .unsound .ensures)
+returns c =
+    let a = c .before .before .before .before .before .before .args in
+    c .unsound .ensures
+    ∙ sym (step-unsound (a .room .now) (a .self) (unset (a .room .now) (a .self) (sym (c .before .before .sound .ensures) ∙ not-true _ (c .before .if1 .taken))))
 
 rests-requires : tie.Need-rests-requires
 rests-requires c κs = search needs
@@ -36,32 +32,40 @@ unsound-requires-2 : tie.Need-unsound-requires-2
 unsound-requires-2 c κs = search needs
 
 returns-2 : tie.Need-returns-2
-unfolding stepOf
 returns-2 c =
-    let a = c .before .before .before .before .before .before .before .before .before .before .args .self in
-    let tidy = sym (c .before .before .before .before .before .tidy .ensures) ∙ not-false _ (c .before .before .before .before .if1 .left) in
-    search (tests, tidy-resting a tidy (search needs) ∙ sym (c .before .before .rests .ensures) ∙ not-true _ (c .before .if3 .taken), c .unsound2 .ensures)
+    let a = c .before .before .before .before .before .before .before .before .before .args in
+    let set = sym (c .before .before .before .before .before .sound .ensures) ∙ not-false _ (c .before .before .before .before .if1 .left) in
+    let rests = sym (c .before .before .rests .ensures) ∙ not-true _ (c .before .if3 .taken) in
+    c .unsound2 .ensures
+    ∙ sym (step-unsound (a .room .now) (a .self) (resting (a .room .now) (a .self) set (c .before .before .before .if2 .taken) ∙ rests))
 
 returns-3 : tie.Need-returns-3
-unfolding stepOf
 returns-3 c =
-    let a = c .before .before .before .before .before .before .before .before .before .args .self in
-    let tidy = sym (c .before .before .before .before .tidy .ensures) ∙ not-false _ (c .before .before .before .if1 .left) in
-    search (tests, tidy-resting a tidy (search needs) ∙ sym (c .before .rests .ensures) ∙ not-false _ (c .if3 .left))
+    let a = c .before .before .before .before .before .before .before .before .args in
+    let set = sym (c .before .before .before .before .sound .ensures) ∙ not-false _ (c .before .before .before .if1 .left) in
+    let none = c .before .before .if2 .taken in
+    let rests = sym (c .before .rests .ensures) ∙ not-false _ (c .if3 .left) in
+    sym (step-ready (a .room .now) (a .self) (resting (a .room .now) (a .self) set none ∙ rests) none)
 
-array-share-prefix-body : tie.Need-array-share-prefix-body
-array-share-prefix-body c =
-    let a = c .before .before .before .before .before .before .before .args .self in
-    let l : length (a .body) ≡ 84 = search needs in
-    let fits = tidy-fits a (sym (c .before .before .tidy .ensures) ∙ not-false _ (c .before .if1 .left)) in
-    omega arith
+filled-requires : tie.Need-filled-requires
+filled-requires c κs = search needs
 
-slice-aggregate-live : tie.Need-slice-aggregate-live
-slice-aggregate-live c =
-    let a = c .before .before .before .before .before .before .before .before .args .self in
-    let l : length (a .body) ≡ 84 = search needs in
-    let fits = tidy-fits a (sym (c .before .before .before .tidy .ensures) ∙ not-false _ (c .before .before .if1 .left)) in
-    sym (length-take-le (a .len) (a .body) (omega arith))
+unsound-requires-3 : tie.Need-unsound-requires-3
+unsound-requires-3 c κs = search needs
+
+returns-4 : tie.Need-returns-4
+returns-4 c =
+    let a = c .before .before .before .before .before .before .before .before .before .args in
+    let set = sym (c .before .before .before .before .before .sound .ensures) ∙ not-false _ (c .before .before .before .before .if1 .left) in
+    let bare = sym (c .before .before .filled .ensures) ∙ not-true _ (c .before .if4 .taken) in
+    c .unsound3 .ensures
+    ∙ sym (step-unsound (a .room .now) (a .self) (unfilled (a .room .now) (a .self) set (c .before .before .before .if2 .left) bare))
+
+slice-aggregate-body : tie.Need-slice-aggregate-body
+slice-aggregate-body c =
+    let a = c .before .before .before .before .before .before .before .before .before .args in
+    let full = sym (c .before .before .filled .ensures) ∙ not-false _ (c .before .if4 .left) in
+    sym (length-take-le (a .self .len) (a .room .now) (filled-fits (a .room .now) (a .self .len) full))
 
 find-requires : tie.Need-find-requires
 find-requires c κs = search needs
@@ -69,52 +73,52 @@ find-requires c κs = search needs
 held-requires : tie.Need-held-requires
 held-requires c κs = search needs
 
-unsound-requires-3 : tie.Need-unsound-requires-3
-unsound-requires-3 c κs = search needs
+unsound-requires-4 : tie.Need-unsound-requires-4
+unsound-requires-4 c κs = search needs
 
-returns-4 : tie.Need-returns-4
-unfolding stepOf
-returns-4 c =
-    let a = c .before .before .before .before .before .before .before .before .before .before .before .before .args .self in
-    let tidy = sym (c .before .before .before .before .before .before .before .tidy .ensures) ∙ not-false _ (c .before .before .before .before .before .before .if1 .left) in
-    let f = c .before .before .before .find .ensures in
-    let held = ap (λ (x : Found). heldOf (x .standing) (a .inner)) (sym f) ∙ sym (c .before .before .held .ensures) ∙ not-true _ (c .before .if4 .taken) in
-    search (tests, tidy-running a tidy (search needs) ∙ held, c .unsound3 .ensures)
+returns-5 : tie.Need-returns-5
+returns-5 c =
+    let a = c .before .before .before .before .before .before .before .before .before .before .before .before .before .args in
+    let set = sym (c .before .before .before .before .before .before .before .before .before .sound .ensures) ∙ not-false _ (c .before .before .before .before .before .before .before .before .if1 .left) in
+    let full = sym (c .before .before .before .before .before .before .filled .ensures) ∙ not-false _ (c .before .before .before .before .before .if4 .left) in
+    let held = ap (λ (x : Found). heldOf (x .standing) (a .self .inner)) (sym (c .before .before .before .find .ensures)) ∙ sym (c .before .before .held .ensures) ∙ not-true _ (c .before .if5 .taken) in
+    c .unsound4 .ensures
+    ∙ sym (step-unsound (a .room .now) (a .self) (running (a .room .now) (a .self) set (c .before .before .before .before .before .before .before .if2 .left) full ∙ held))
 
 run-requires : tie.Need-run-requires
 run-requires c κs =
-    let a = c .before .before .before .before .before .before .before .before .before .before .before .args .self in
-    let tidy = sym (c .before .before .before .before .before .before .tidy .ensures) ∙ not-false _ (c .before .before .before .before .before .if1 .left) in
-    let f = c .before .before .find .ensures in
-    let held : heldOf (standOf (bodyOf a) (a .place)) (a .inner) ≡ true = ap (λ (x : Found). heldOf (x .standing) (a .inner)) (sym f) ∙ sym (c .before .held .ensures) ∙ not-false _ (c .if4 .left) in
-    (tidy-running a tidy (search needs) ∙ held, (search needs, (ap (λ (x : Found). x .read) f ∙ held-seen (standOf (bodyOf a) (a .place)) (a .inner) (readOf (bodyOf a) (a .place)) (a .place) held, refl)))
+    let a = c .before .before .before .before .before .before .before .before .before .before .before .before .args in
+    let body = bodyOf (a .room .now) (a .self) in
+    let held : heldOf (standOf body (a .self .place)) (a .self .inner) ≡ true = ap (λ (x : Found). heldOf (x .standing) (a .self .inner)) (sym (c .before .before .find .ensures)) ∙ sym (c .before .held .ensures) ∙ not-false _ (c .if5 .left) in
+    (held, ap (λ (x : Found). x .read) (c .before .before .find .ensures) ∙ held-seen (standOf body (a .self .place)) (a .self .inner) (readOf body (a .self .place)) (a .self .place) held)
 
-returns-5 : tie.Need-returns-5
-unfolding stepOf
-returns-5 c =
-    let a = c .before .before .before .before .before .before .before .before .before .before .before .before .args .self in
-    let tidy = sym (c .before .before .before .before .before .before .before .tidy .ensures) ∙ not-false _ (c .before .before .before .before .before .before .if1 .left) in
-    let f = c .before .before .before .find .ensures in
-    let held = ap (λ (x : Found). heldOf (x .standing) (a .inner)) (sym f) ∙ sym (c .before .before .held .ensures) ∙ not-false _ (c .before .if4 .left) in
-    search (tests, tidy-running a tidy (search needs) ∙ held, c .run .ensures)
+returns-6 : tie.Need-returns-6
+returns-6 c =
+    let a = c .before .before .before .before .before .before .before .before .before .before .before .before .before .args in
+    let set = sym (c .before .before .before .before .before .before .before .before .before .sound .ensures) ∙ not-false _ (c .before .before .before .before .before .before .before .before .if1 .left) in
+    let busy = c .before .before .before .before .before .before .before .if2 .left in
+    let full = sym (c .before .before .before .before .before .before .filled .ensures) ∙ not-false _ (c .before .before .before .before .before .if4 .left) in
+    let held = ap (λ (x : Found). heldOf (x .standing) (a .self .inner)) (sym (c .before .before .before .find .ensures)) ∙ sym (c .before .before .held .ensures) ∙ not-false _ (c .before .if5 .left) in
+    c .run .ensures ∙ sym (step-busy (a .room .now) (a .self) (running (a .room .now) (a .self) set busy full ∙ held) busy)
 
 pub step-spec : {M : Type 1} → statement M
 step-spec =
     tie.close
     (tie.spec
-    slice-aggregate-tidy
-    tidy-requires
+    sound-requires
     unsound-requires
     returns
     rests-requires
     unsound-requires-2
     returns-2
     returns-3
-    array-share-prefix-body
-    slice-aggregate-live
-    find-requires
-    held-requires
+    filled-requires
     unsound-requires-3
     returns-4
+    slice-aggregate-body
+    find-requires
+    held-requires
+    unsound-requires-4
+    returns-5
     run-requires
-    returns-5)
+    returns-6)

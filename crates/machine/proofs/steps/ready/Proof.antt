@@ -1,6 +1,5 @@
 -- `ready` is the run that holds no body.
 use mathlib.Core.Path.{ap}
-use lib.ListN.{replicate}
 use Rattle.machine.specs.Step.{readyOf}
 use Rattle.machine.specs.declared.Loop.{Loop}
 use borrow.Author.Needs.{needs}
@@ -12,7 +11,7 @@ none-requires c κs = search needs
 
 returns : tie.Need-returns
 unfolding readyOf
-returns c = ap (λ (l : Loop). record { body = replicate 84 0; len = 0; place = 0; inner = l; settings = c .before .args .settings }) (c .none .ensures)
+returns c = ap (λ (l : Loop). record { len = 0; place = 0; inner = l; settings = c .before .args .settings }) (c .none .ensures)
 
 pub ready-spec : {M : Type 1} → statement M
 ready-spec = tie.close (tie.spec none-requires returns)

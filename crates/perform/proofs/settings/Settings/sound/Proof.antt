@@ -28,7 +28,7 @@ returns-5 c = search tests
 
 returns-6 : tie.Need-returns-6
 unfolding soundOf
-returns-6 c = let d : c .before .before .before .before .before .before .before .before .before .before .before .before .args .self .dim ≤ 255 = search needs in search tests
+returns-6 c = search tests
 
 returns-7 : tie.Need-returns-7
 unfolding soundOf
@@ -36,8 +36,12 @@ returns-7 c = let d : c .before .before .before .before .before .before .before 
 
 returns-8 : tie.Need-returns-8
 unfolding soundOf
-returns-8 c = let d : c .before .before .before .before .before .before .before .before .before .before .before .before .before .before .before .args .self .dim ≤ 255 = search needs in search tests
+returns-8 c = let d : c .before .before .before .before .before .before .before .before .before .before .before .before .before .before .before .before .args .self .dim ≤ 255 = search needs in search tests
+
+returns-9 : tie.Need-returns-9
+unfolding soundOf
+returns-9 c = let d : c .before .before .before .before .before .before .before .before .before .before .before .before .before .before .before .before .before .args .self .dim ≤ 255 = search needs in search tests
 
 pub sound-spec : {M : Type 1} → statement M
 sound-spec =
-    tie.close (tie.spec returns returns-2 returns-3 returns-4 returns-5 returns-6 returns-7 returns-8)
+    tie.close (tie.spec returns returns-2 returns-3 returns-4 returns-5 returns-6 returns-7 returns-8 returns-9)

@@ -1,0 +1,190 @@
+//! How often calls with an image came up on ground where they can easily go wrong: images with one fault only, refusals that
+//! must come in their order, and changes of what the one room holds.
+//! Answers to the C interface's layout of an image and its order of refusals.
+
+use crate::case::{After, Case, Function, SHAPES};
+use crate::records::is_sound;
+use reference::calls::{RECEIVE_ANSWER, STEP_ANSWER};
+use reference::image::{AT_ID, AT_LAST, AT_LENGTH, AT_LENS, AT_LOOP_LEFT, AT_PLACE, AT_ROOM, AT_SINK, AT_TOTAL, IMAGE};
+use reference::packet::{DATA_MOST, REPLY, read_packet};
+
+use Function::{CopyBody, Receive, Reply, Reset, Step};
+
+type Met = fn(&Case, &After) -> bool;
+
+/// Something that a call can meet, and the calls that should meet it in each race.
+struct Ground {
+    name: &'static str,
+    functions: &'static [Function],
+    met: Met,
+}
+
+const fn ground(name: &'static str, functions: &'static [Function], met: Met) -> Ground {
+    Ground { name, functions, met }
+}
+
+const ALL: &[Function] = &[Reset, Receive, Step, Reply, CopyBody];
+const ANSWERS: &[Function] = &[Receive, Step];
+const BUFFERS: &[Function] = &[Reply, CopyBody];
+const RESETS: &[Function] = &[Reset, Receive];
+const PACKETS: &[Function] = &[Receive];
+const STEPS: &[Function] = &[Step];
+
+/// What makes an image unsound by itself, then the order of refusals, then what changes the room or must leave it.
+#[rustfmt::skip]
+const GROUNDS: [Ground; 23] = [
+    ground("AUX byte over 1, all else sound", ALL, |case, _| faulty(case, right_aux)),
+    ground("Busy with stray collection bytes, all else sound", ALL,
+        |case, _| is_busy(case) && faulty(case, no_collection)),
+    ground("Busy with a stray room after the body, all else sound", ALL,
+        |case, _| is_busy(case) && faulty(case, no_room_after_body)),
+    ground("Ready with a stray room, nothing collected, all else sound", ALL,
+        |case, _| !is_busy(case) && !collects(case) && faulty(case, no_room)),
+    ground("Ready with a stray room beside the packets, all else sound", ALL,
+        |case, _| !is_busy(case) && collects(case) && faulty(case, no_room_beside_packets)),
+    ground("Ready with a whole program in the room, all else sound", ALL,
+        |case, _| !is_busy(case) && !collects(case) && faulty(case, start_program)),
+
+    ground("short answer, image of another size (251)", ANSWERS, |case, after| is_short(case) && is_no(after, 251)),
+    ground("short answer, unsound record (16)", ANSWERS, |case, after| is_short(case) && is_no(after, 16)),
+    ground("short answer, AUX byte over 1, all else sound (16)", ANSWERS,
+        |case, after| is_short(case) && is_no(after, 16) && faulty(case, right_aux)),
+    ground("short answer, sound record (252)", ANSWERS, |_, after| is_no(after, 252)),
+    ground("short answer, sound record, wrong packet (252)", PACKETS,
+        |case, after| is_no(after, 252) && is_wrong_packet(case)),
+    ground("unsound record, wrong packet (16)", PACKETS, |case, after| is_no(after, 16) && is_wrong_packet(case)),
+    ground("short buffer, unsound record (16)", BUFFERS, |case, after| is_short(case) && is_no(after, 16)),
+
+    ground("query to a Busy sign", PACKETS, |case, after| is_busy(case) && did(after, 1)),
+    ground("Repeat at a Busy sign", PACKETS, |case, after| is_busy(case) && did(after, 3)),
+    ground("Repeat at a sign that collects", PACKETS, |case, after| collects(case) && did(after, 3)),
+    ground("Idle step of a sign that collects", STEPS, |case, after| collects(case) && did(after, 0)),
+    ground("reset of a Busy sign", RESETS, |case, after| is_busy(case) && did_reset(case, after)),
+    ground("reset of a sign that collects", RESETS, |case, after| collects(case) && did_reset(case, after)),
+    ground("packets dropped for those of another message", PACKETS,
+        |case, after| collects(case) && did(after, 4) && after.image()[AT_ID] != case.image[AT_ID]),
+    ground("program of several packets released", PACKETS,
+        |case, after| did_release_collected(case, after) && after.image()[AT_LENGTH] != 0),
+    ground("body of several packets released that is no program", PACKETS,
+        |case, after| did_release_collected(case, after) && after.image()[AT_LENGTH] == 0),
+    ground("last step of a program", STEPS,
+        |case, after| is_busy(case) && is_no(after, 0) && after.image()[AT_LENGTH] == 0),
+];
+
+fn is_no(after: &After, no: u32) -> bool {
+    after.result & 0xFF == no
+}
+
+/// Whether a packet had this outcome, or a step was of this kind.
+fn did(after: &After, word: u32) -> bool {
+    is_no(after, 0) && after.word(0) == word
+}
+
+fn did_reset(case: &Case, after: &After) -> bool {
+    if case.function == Reset { is_no(after, 0) } else { did(after, 2) }
+}
+
+/// Whether the packets that a sign held are in the body that it released.
+fn did_release_collected(case: &Case, after: &After) -> bool {
+    collects(case) && did(after, 5) && after.image()[AT_LAST] == case.image[AT_ID]
+}
+
+fn is_busy(case: &Case) -> bool {
+    case.image.len() == IMAGE && case.image[AT_LENGTH] != 0
+}
+
+fn collects(case: &Case) -> bool {
+    case.image.len() == IMAGE && case.image[AT_TOTAL] != 0
+}
+
+/// Whether the call would be refused for what it was lent to write in.
+fn is_short(case: &Case) -> bool {
+    let needed = match case.function {
+        Receive => RECEIVE_ANSWER,
+        Step => STEP_ANSWER,
+        Reply => REPLY,
+        _ => case.image.get(AT_LENGTH).map_or(0, |&length| length.into()),
+    };
+    case.out.len() < needed
+}
+
+fn is_wrong_packet(case: &Case) -> bool {
+    read_packet(case.numbers[0] as u8, &case.bytes).is_err()
+}
+
+/// Whether this is all that is wrong with the image: it is unsound, and sound once mended.
+fn faulty(case: &Case, mend: fn(&mut [u8])) -> bool {
+    if case.image.len() != IMAGE || is_sound(&case.image) {
+        return false;
+    }
+    let mut mended = case.image.clone();
+    mend(&mut mended);
+    is_sound(&mended)
+}
+
+fn right_aux(image: &mut [u8]) {
+    image[AT_SINK] = 1;
+}
+
+fn no_collection(image: &mut [u8]) {
+    image[AT_ID..AT_ROOM].fill(0);
+}
+
+fn no_room(image: &mut [u8]) {
+    image[AT_ROOM..AT_LENGTH].fill(0);
+}
+
+fn no_room_after_body(image: &mut [u8]) {
+    let end = AT_ROOM + usize::from(image[AT_LENGTH]);
+    image[end.min(AT_LENGTH)..AT_LENGTH].fill(0);
+}
+
+fn no_room_beside_packets(image: &mut [u8]) {
+    let (front, room) = image.split_at_mut(AT_ROOM);
+    for (&length, slot) in front[AT_LENS..].iter().zip(room.chunks_mut(DATA_MOST)) {
+        slot[DATA_MOST.min(length.into())..].fill(0);
+    }
+}
+
+/// Makes what stands in the room the running body.
+fn start_program(image: &mut [u8]) {
+    let used = image[AT_ROOM..AT_LENGTH].iter().rposition(|&byte| byte != 0).map_or(0, |last| last + 1);
+    image[AT_LENGTH] = used as u8;
+    image[AT_PLACE..=AT_LOOP_LEFT].fill(0);
+}
+
+/// The counts of each ground by call.
+pub struct Grounds([[u64; SHAPES.len()]; GROUNDS.len()]);
+
+impl Grounds {
+    pub fn new() -> Self {
+        Grounds([[0; SHAPES.len()]; GROUNDS.len()])
+    }
+
+    /// Counts the grounds that a case met.
+    pub fn count(&mut self, case: &Case, after: &After) {
+        for (ground, counts) in GROUNDS.iter().zip(&mut self.0) {
+            if ground.functions.contains(&case.function) && (ground.met)(case, after) {
+                counts[case.function as usize] += 1;
+            }
+        }
+    }
+
+    pub fn print(&self) {
+        println!("calls with an image, by what they met:");
+        for (ground, counts) in GROUNDS.iter().zip(&self.0) {
+            let of = |function: &Function| format!("{} {}", function.shape().name, counts[*function as usize]);
+            println!("  {}: {}", ground.name, ground.functions.iter().map(of).collect::<Vec<_>>().join(", "));
+        }
+    }
+
+    /// The grounds that a call should have met and never did.
+    pub fn faults(&self) -> Vec<String> {
+        let mut faults = Vec::new();
+        for (ground, counts) in GROUNDS.iter().zip(&self.0) {
+            let never = ground.functions.iter().filter(|&&function| counts[function as usize] == 0);
+            faults.extend(never.map(|function| format!("{} never met: {}", function.shape().name, ground.name)));
+        }
+        faults
+    }
+}

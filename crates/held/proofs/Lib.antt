@@ -1,2 +1,0 @@
-pub mod Lays
-mod Over

@@ -1,0 +1,16 @@
+-- `runs` empties the room where Busy became Ready.
+use Rattle.basis.proofs.Tests.{tests}
+use Rattle.sign.proofs.Sign.runs.Statement.{statement}
+use Rattle.sign.proofs.Sign.runs.Tie as tie
+
+returns : tie.Need-returns
+returns c = search tests
+
+returns-2 : tie.Need-returns-2
+returns-2 c = search tests
+
+returns-3 : tie.Need-returns-3
+returns-3 c = search tests
+
+pub runs-spec : {M : Type 1} → statement M
+runs-spec = tie.close (tie.spec returns returns-2 returns-3)

@@ -57,7 +57,7 @@ module _ (s : Sign) (g : Good s) where
   kept = step-keeps (s .room) (s .run) (sound-parts s (g .sound) .run)
 
   -- a room that was emptied is one beside a Ready run
-  room-is : (P : List ℕ → Type 0) → P (s .room) → ((s .run .len ≡ 0 → ⊥) → went .len ≡ 0 → P (replicate 84 0)) → P (roomAfter s went)
+  room-is : (P : List ℕ → Type 0) → P (s .room) → ((s .run .len ≡ 0 → ⊥) → went .len ≡ 0 → P (replicate 84 0)) → P (roomAfter (s .room) (s .run .len) (went .len))
   room-is P same ends = go (eqb (s .run .len) 0) (eqb (went .len) 0) refl refl
     where
       go : (t u : Bool) → eqb (s .run .len) 0 ≡ t → eqb (went .len) 0 ≡ u → P (when (not t and u) (replicate 84 0) (s .room))
@@ -66,13 +66,13 @@ module _ (s : Sign) (g : Good s) where
       go false false e f = same
 
   -- so the steps after it don't ask which
-  room-run : (n : ℕ) → afterRun n (roomAfter s went) went ≡ afterRun n (s .room) went
+  room-run : (n : ℕ) → afterRun n (roomAfter (s .room) (s .run .len) (went .len)) went ≡ afterRun n (s .room) went
   room-run n =
       room-is (λ room. afterRun n room went ≡ afterRun n (s .room) went) refl
       (λ busy none.
       rest-run n (replicate 84 0) went (ready-anywhere (replicate 84 0) (s .room) went none ∙ kept) none ∙ sym (rest-run n (s .room) went kept none))
 
-  room-said : (n : ℕ) → saidRun n (roomAfter s went) went ≡ saidRun n (s .room) went
+  room-said : (n : ℕ) → saidRun n (roomAfter (s .room) (s .run .len) (went .len)) went ≡ saidRun n (s .room) went
   room-said n =
       room-is (λ room. saidRun n room went ≡ saidRun n (s .room) went) refl
       (λ busy none.

@@ -14,13 +14,13 @@ use Rattle.sign.specs.Sound.{soundOf}
 use Rattle.sign.specs.declared.Sign.{Sign}
 use Rattle.sign.specs.declared.Stepped.{Stepped}
 
--- the room with the run after a step: zeros where Busy became Ready
-abbrev pub roomAfter : Sign → Run → List ℕ
-roomAfter s run = when (not (eqb (s .run .len) 0) and eqb (run .len) 0) (replicate 84 0) (s .room)
+-- the room after a step, by the running body's length before and after it: zeros where Busy became Ready
+abbrev pub roomAfter : List ℕ → (before after : ℕ) → List ℕ
+roomAfter room before after = when (not (eqb before 0) and eqb after 0) (replicate 84 0) room
 
 -- the record with the run after a step
 abbrev pub runsOf : Sign → Run → Sign
-runsOf s run = record { last = s .last; slots = s .slots; room = roomAfter s run; run = run }
+runsOf s run = record { last = s .last; slots = s .slots; room = roomAfter (s .room) (s .run .len) (run .len); run = run }
 
 abbrev pub steppedOf : Sign → RunStepped → Stepped
 steppedOf s went = record { sign = runsOf s (went .run); answer = went .answer }

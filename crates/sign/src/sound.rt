@@ -11,11 +11,10 @@ impl Sign {
         ensures { λ r. ⌜ r ≡ soundOf self ⌝ }
     {
         let slots = self.slots;
-        let room = self.room;
         let run = self.run;
-        if !framed(self.last, slots, &room, self.run.len) {
+        if !framed(self.last, slots, &self.room, self.run.len) {
             return false;
         }
-        run.sound(&room)
+        run.sound(&self.room)
     }
 }

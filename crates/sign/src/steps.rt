@@ -4,33 +4,29 @@ use crate::Sign;
 use crate::Stepped;
 use hear::framed;
 use machine::Answer;
-use machine::Run;
 ghost use mathlib.Core.Path.{_≡_};
-ghost use Rattle.sign.specs.Step.{runsOf, stepOf};
+ghost use Rattle.sign.specs.Step.{roomAfter, stepOf};
+
+// Empties the room where a body of one length has run to its end, which is a length of 0 after the step.
+fn empty(room: &mut [u8; 84], before: usize, after: usize)
+    ensures { λ _. ⌜ now (room .exit) ≡ roomAfter (now (room .entry)) before after ⌝ }
+{
+    if before == 0 {
+        return;
+    }
+    if after != 0 {
+        return;
+    }
+    *room = [0; 84];
+}
 
 impl Sign {
-    // The record with the run after a step; the room is emptied where the body has run to its end.
-    fn runs(self, run: Run) -> Sign
-        ensures { λ r. ⌜ r ≡ runsOf self run ⌝ }
-    {
-        let mut next = self;
-        next.run = run;
-        if self.run.len == 0 {
-            return next;
-        }
-        if run.len != 0 {
-            return next;
-        }
-        next.room = [0; 84];
-        next
-    }
-
     // One step: the next record with the answer; 16 for an unsound record.
     pub fn step(self) -> Stepped
         ensures { λ r. ⌜ r ≡ stepOf self ⌝ }
     {
         let slots = self.slots;
-        let room = self.room;
+        let mut room = self.room;
         let run = self.run;
         if !framed(self.last, slots, &room, self.run.len) {
             return Stepped {
@@ -39,11 +35,15 @@ impl Sign {
             };
         }
         let went = run.step(&room);
-        let after = went.run;
+        let next = went.run;
         let answer = went.answer;
-        Stepped {
-            sign: self.runs(after),
-            answer,
-        }
+        empty(&mut room, self.run.len, next.len);
+        let sign = Sign {
+            last: self.last,
+            slots,
+            room,
+            run: next,
+        };
+        Stepped { sign, answer }
     }
 }

@@ -14,21 +14,17 @@ framed-requires c κs = search needs
 
 returns : tie.Need-returns
 returns c =
-    let s = c .before .before .before .before .before .before .args .self in
+    let s = c .before .before .before .before .before .before .args .t1 in
     sym (sound-framed s ∙ ap (λ (t : Bool). t and runSound (s .room) (s .run)) (sym (c .before .framed .ensures) ∙ not-true _ (c .if1 .taken)))
-
-slice-aggregate-sound : tie.Need-slice-aggregate-sound
-slice-aggregate-sound c = search needs
 
 sound-requires : tie.Need-sound-requires
 sound-requires c κs = search needs
 
 returns-2 : tie.Need-returns-2
 returns-2 c =
-    let s = c .before .before .before .before .before .before .before .before .args .self in
+    let s = c .before .before .before .before .before .before .before .before .before .before .args .t1 in
     c .sound .ensures
-    ∙ sym (sound-framed s ∙ ap (λ (t : Bool). t and runSound (s .room) (s .run)) (sym (c .before .before .before .framed .ensures) ∙ not-false _ (c .before .before .if1 .left)))
+    ∙ sym (sound-framed s ∙ ap (λ (t : Bool). t and runSound (s .room) (s .run)) (sym (c .before .before .before .before .before .framed .ensures) ∙ not-false _ (c .before .before .before .before .if1 .left)))
 
 pub sound-spec : {M : Type 1} → statement M
-sound-spec =
-    tie.close (tie.spec framed-requires returns slice-aggregate-sound sound-requires returns-2)
+sound-spec = tie.close (tie.spec framed-requires returns sound-requires returns-2)

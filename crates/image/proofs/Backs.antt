@@ -180,3 +180,10 @@ image-again b e h =
     (ap (λ (l : List ℕ). getD b 0 0 ∷ getD b 1 0 ∷ getD b 2 0 ∷ (take 6 (drop 3 b) ++ (take 84 (drop 9 b) ++ l))) (sym end)
     ∙ ap (λ (l : List ℕ). getD b 0 0 ∷ getD b 1 0 ∷ getD b 2 0 ∷ l) parts
     ∙ sym front)
+
+-- so sound records and accepted images are one to one: of equal images the records are equal, and of equal records the images
+pub same-image : (s t : Sign) → Shaped s → Shaped t → soundOf s ≡ true → soundOf t ≡ true → imageOf s ≡ imageOf t → s ≡ t
+same-image s t hs ht es et e = sym (sound-back s hs es) ∙ ap recordOf e ∙ sound-back t ht et
+
+pub same-record : (b c : List ℕ) → length b ≡ 102 → length c ≡ 102 → Bytes b → Bytes c → recordOf b ≡ recordOf c → b ≡ c
+same-record b c lb lc hb hc e = sym (image-again b lb hb) ∙ ap imageOf e ∙ image-again c lc hc

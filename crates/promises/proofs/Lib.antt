@@ -5,3 +5,4 @@ pub mod Wire
 pub mod Record
 pub mod Lent
 pub mod Yes
+pub mod Still

@@ -9,14 +9,17 @@ use lib.Dec.{eqb, ltb}
 use lib.ListN.{length, getD}
 use Rattle.basis.specs.Choice.{when, _and_}
 use Rattle.params.specs.Bytes.{caret}
+use Rattle.program.specs.declared.Command.{Command}
 use Rattle.program.specs.declared.Reading.{Reading}
+use Rattle.program.specs.declared.Reading.the-variants.{Good, Refused as Wrong}
 use Rattle.loops.specs.Token.{Part, act, rep, close, forever, again, Tok, good, bad, sizeOf, get, chain, tokensOf}
 use Rattle.loops.specs.Structure.{Structure, broken, kept, structureOf, roleIn, opened, go, moved, moveOf}
 use Rattle.loops.specs.Flow.{roomOf, endedOf, opensOf, turnOf}
 use Rattle.judge.specs.Verdict.{endOf, judge, commandsOf, frontOf, judgeOf}
-use Rattle.judge.specs.Standing.{insideOf, stood, standAt, orElse, ofAccepted, seenOf}
+use Rattle.judge.specs.Standing.{insideOf, stood, standAt, orElse, ofAccepted, placedOf}
 use Rattle.judge.specs.declared.Opening.the-variants.{Begun, Refused as TooSoon}
 use Rattle.loops.specs.declared.Open.{Open}
+use Rattle.judge.specs.declared.Found.the-variants.{Nowhere as Missing, At}
 use Rattle.judge.specs.declared.Standing.{Standing}
 use Rattle.judge.specs.declared.Standing.the-variants.{Nowhere, Outside, Inside}
 use Rattle.loops.specs.declared.Flow.{Flow}
@@ -221,8 +224,19 @@ accepted-nowhere Finite s e = e
 accepted-nowhere Endless s e = e
 accepted-nowhere (Refused n q) s e = refl
 
--- what is read where a place stands somewhere
-pub seen-is : (s : Standing) (r x : Reading) (q : ℕ) → ((s ≡ Nowhere → ⊥) → r ≡ x) → seenOf s r q ≡ seenOf s x q
-seen-is Nowhere r x q h = refl
-seen-is Outside r x q h = h (λ e. let z : _≡_ {A = ℕ} 0 1 = cc in omega arith)
-seen-is (Inside behind number) r x q h = h (λ e. let z : _≡_ {A = ℕ} 0 1 = cc in omega arith)
+-- what is read counts only where a place stands somewhere
+pub placed-is : (s : Standing) (r x : Reading) → ((s ≡ Nowhere → ⊥) → r ≡ x) → placedOf s r ≡ placedOf s x
+placed-is Nowhere r x h = refl
+placed-is Outside r x h = ap (placedOf Outside) (h (λ e. let z : _≡_ {A = ℕ} 0 1 = cc in omega arith))
+placed-is (Inside behind number) r x h = ap (placedOf (Inside behind number)) (h (λ e. let z : _≡_ {A = ℕ} 0 1 = cc in omega arith))
+
+-- a command that stands somewhere stands there
+pub placed-good : (s t : Standing) (r : Reading) (c : Command) → s ≡ t → r ≡ Good c → At t c ≡ placedOf t (Good c) → At s c ≡ placedOf s r
+placed-good s t r c there reads is =
+    ap (λ (x : Standing). At x c) there ∙ is ∙ ap (placedOf t) (sym reads) ∙ ap (λ (x : Standing). placedOf x r) (sym there)
+
+-- what is no command stands nowhere
+pub placed-unread : (s : Standing) (n q : ℕ) → placedOf s (Wrong n q) ≡ Missing
+placed-unread Nowhere n q = refl
+placed-unread Outside n q = refl
+placed-unread (Inside behind number) n q = refl

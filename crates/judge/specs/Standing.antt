@@ -8,7 +8,7 @@ use lib.Dec.{eqb}
 use Rattle.basis.specs.Choice.{when}
 use Rattle.program.specs.Command.{readOf}
 use Rattle.program.specs.declared.Reading.{Reading}
-use Rattle.program.specs.declared.Reading.the-variants.{Refused as Wrong}
+use Rattle.program.specs.declared.Reading.the-variants.{Good, Refused as Wrong}
 use Rattle.loops.specs.Token.{Tok, tokensOf}
 use Rattle.loops.specs.Structure.{Move, stop, go, moveOf}
 use Rattle.judge.specs.Verdict.{judgeOf}
@@ -19,6 +19,7 @@ use Rattle.judge.specs.declared.Standing.{Standing}
 use Rattle.judge.specs.declared.Standing.the-variants.{Nowhere, Outside, Inside}
 use Rattle.judge.specs.declared.Walked.{Walked}
 use Rattle.judge.specs.declared.Found.{Found}
+use Rattle.judge.specs.declared.Found.the-variants.{Nowhere as Missing, At}
 
 -- in the innermost open loop, or outside
 abbrev pub insideOf : List Open → Standing
@@ -56,15 +57,20 @@ walkedOf v s r = record { verdict = v; found = ofAccepted v s; read = r }
 unfoldable pub standOf : List ℕ → ℕ → Standing
 standOf b q = ofAccepted (judgeOf b) (standAt q (tokensOf b 0) 1 0 false [])
 
--- what is read at a place that stands so: 22 where it stands nowhere
-abbrev pub seenOf : Standing → Reading → ℕ → Reading
-seenOf Nowhere r q = Wrong 22 q
-seenOf Outside r q = r
-seenOf (Inside behind number) r q = r
+-- a standing with the command that is read there; at a command of an accepted body the reading is always good
+abbrev pub withRead : Standing → Reading → Found
+withRead s (Good c) = At s c
+withRead s (Wrong n p) = Missing
 
--- the place with what is read there
+-- the same, by where the place stands
+abbrev pub placedOf : Standing → Reading → Found
+placedOf Nowhere r = Missing
+placedOf Outside r = withRead Outside r
+placedOf (Inside behind number) r = withRead (Inside behind number) r
+
+-- the place q of the body b with the command that stands there
 abbrev pub foundOf : List ℕ → ℕ → Found
-foundOf b q = record { standing = standOf b q; read = seenOf (standOf b q) (readOf b q) q }
+foundOf b q = placedOf (standOf b q) (readOf b q)
 
 -- a standing in the record's words: the loop place and the loop's number, both 0 outside
 abbrev pub loopPlaceOf : Standing → ℕ

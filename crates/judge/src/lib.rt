@@ -15,6 +15,7 @@ mod whole;
 pub use begin::front;
 pub use places::find;
 pub use places::stand;
+use program::Command;
 use program::Reading;
 pub use whole::judge;
 
@@ -39,15 +40,15 @@ pub enum Standing {
     Inside(usize, usize),
 }
 
-// A body's commands walked: the verdict on them, and where the place looked for stands.
-pub struct Walked {
-    pub verdict: Verdict,
-    pub found: Standing,
-    pub read: Reading,
+// A body's commands walked: the verdict on them, where the place looked for stands, and what was read there if it stands anywhere.
+struct Walked {
+    verdict: Verdict,
+    found: Standing,
+    read: Reading,
 }
 
-// A place found: where it stands, and what is read there.
-pub struct Found {
-    pub standing: Standing,
-    pub read: Reading,
+// A place looked for: at no command of an accepted body, or where it stands with the command there.
+pub enum Found {
+    Nowhere,
+    At(Standing, Command),
 }

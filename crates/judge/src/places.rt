@@ -7,7 +7,7 @@ use crate::begin::front;
 use crate::walk::walk;
 use program::Reading;
 ghost use mathlib.Core.Path.{_≡_};
-ghost use Rattle.judge.specs.Standing.{standOf, seenOf, foundOf};
+ghost use Rattle.judge.specs.Standing.{standOf, placedOf, foundOf};
 
 // Whether a place is at a command of an accepted body, and which loop encloses it.
 pub fn stand(body: &[u8], place: usize) -> Standing
@@ -24,14 +24,17 @@ pub fn stand(body: &[u8], place: usize) -> Standing
     }
 }
 
-// What is read at a place that stands somewhere; 22 at one that does not.
-fn seen(standing: Standing, read: Reading, place: usize) -> Reading
-    ensures { λ r. ⌜ r ≡ seenOf standing read place ⌝ }
+// A command with where it stands; nowhere, if it stands nowhere or none was read.
+fn placed(standing: Standing, read: Reading) -> Found
+    ensures { λ r. ⌜ r ≡ placedOf standing read ⌝ }
 {
-    match standing {
-        Standing::Nowhere => Reading::Refused(22, place),
-        Standing::Outside => read,
-        Standing::Inside(_, _) => read,
+    match read {
+        Reading::Refused(_, _) => Found::Nowhere,
+        Reading::Good(command) => match standing {
+            Standing::Nowhere => Found::Nowhere,
+            Standing::Outside => Found::At(standing, command),
+            Standing::Inside(_, _) => Found::At(standing, command),
+        },
     }
 }
 
@@ -41,18 +44,12 @@ pub fn find(body: &[u8], place: usize) -> Found
 {
     let opening = front(body);
     match opening {
-        Opening::Refused(_, _) => Found {
-            standing: Standing::Nowhere,
-            read: Reading::Refused(22, place),
-        },
+        Opening::Refused(_, _) => Found::Nowhere,
         Opening::Begun => {
             let walked = walk(body, place);
             let standing = walked.found;
             let read = walked.read;
-            Found {
-                standing,
-                read: seen(standing, read, place),
-            }
+            placed(standing, read)
         }
     }
 }

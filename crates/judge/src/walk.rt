@@ -66,13 +66,14 @@ fn over(flow: Flow, found: Standing, read: Reading) -> Walked
 }
 
 // The commands of a body, from its first byte to its end, and the place among them with what is read at it.
-pub fn walk(body: &[u8], place: usize) -> Walked
+pub(crate) fn walk(body: &[u8], place: usize) -> Walked
     ensures judged { λ r. ⌜ r ≡ walkedOf (commandsOf (now (body .entry))) (standAt place (tokensOf (now (body .entry)) 0) 1 0 false []) (r .read) ⌝ }
     ensures heard { λ r. ⌜ ((r .found ≡ Nowhere → ⊥) → r .read ≡ readOf (now (body .entry)) place) ⌝ }
 {
     let mut at: usize = 0;
     let mut flow = Flow::Free;
     let mut found = Standing::Nowhere;
+    // Until a command is read at the place this says nothing, and no public call shows it.
     let mut here = Reading::Refused(22, place);
     while at < body.len() {
         let read = read_command(body, at);

@@ -62,7 +62,7 @@ fn within(role: Role, here: Open, outer: Open) -> Rule
 }
 
 // What the rule says of a command where judging stands.
-pub fn rule(flow: Flow, role: Role, here: Open) -> Rule
+pub(crate) fn rule(flow: Flow, role: Role, here: Open) -> Rule
     ensures { λ r. ⌜ r ≡ ruleOf (structureOf role (roomOf flow) here (opensOf flow)) ⌝ }
 {
     match flow {

@@ -12,13 +12,15 @@ use Rattle.basis.specs.Choice.{when, _and_}
 use Rattle.basis.proofs.Choices.{and-parts}
 use Rattle.basis.proofs.Tests.{tests}
 use Rattle.program.specs.Command.{readOf}
+use Rattle.program.specs.declared.Command.{Command}
 use Rattle.program.specs.declared.Reading.{Reading}
-use Rattle.program.specs.declared.Reading.the-variants.{Refused as Bad}
+use Rattle.program.specs.declared.Reading.the-variants.{Good, Refused as Bad}
 use Rattle.loops.specs.Token.{good, bad, tokOf}
+use Rattle.judge.specs.declared.Found.the-variants.{Nowhere as Missing, At}
 use Rattle.judge.specs.declared.Standing.{Standing}
 use Rattle.judge.specs.declared.Standing.the-variants.{Nowhere, Outside, Inside}
-use Rattle.grammar.proofs.Standings.{At, stands-at}
-use Rattle.judge.specs.Standing.{standOf, seenOf}
+use Rattle.grammar.proofs.Standings.{At as StandsAt, stands-at}
+use Rattle.judge.specs.Standing.{standOf, placedOf, foundOf}
 use Rattle.perform.specs.Settings.{soundOf as settingsSound}
 use Rattle.room.specs.Room.{zerosOf}
 use Rattle.grammar.specs.Grammar.{acceptedAs}
@@ -62,19 +64,13 @@ ready-anywhere room other r none = go (settingsSound (r .settings)) refl
 pub filled-fits : (room : List ℕ) (len : ℕ) → filledOf room len ≡ true → len ≤ length room
 filled-fits room len e = leb-true len (length room) (and-parts (leb len (length room)) _ e .0)
 
--- what is read where a place is held
-pub held-seen : (s : Standing) (l : Loop) (x : Reading) (q : ℕ) → heldOf s l ≡ true → seenOf s x q ≡ x
-held-seen Nowhere l x q h = let z : _≡_ {A = ℕ} 0 1 = cc in absurd (omega arith)
-held-seen Outside l x q h = refl
-held-seen (Inside behind number) l x q h = refl
-
 -- where a place is held it stands somewhere
 somewhere : (s : Standing) (l : Loop) → heldOf s l ≡ true → s ≡ Nowhere → ⊥
 somewhere s l h e = let w : false ≡ true = sym (ap (λ (x : Standing). heldOf x l) e) ∙ h in let z : _≡_ {A = ℕ} 0 1 = cc in omega arith
 
 -- a place that is held is one at a command of an accepted body
 module _ (b : List ℕ) (p : ℕ) (l : Loop) (held : heldOf (standOf b p) l ≡ true) where
-  pub held-at : At b p (standOf b p)
+  pub held-at : StandsAt b p (standOf b p)
   held-at = stands-at b p (standOf b p) refl (somewhere (standOf b p) l held)
 
   -- so the body has 84 bytes at most
@@ -84,12 +80,41 @@ module _ (b : List ℕ) (p : ℕ) (l : Loop) (held : heldOf (standOf b p) l ≡ 
       accepting b (acceptedAs (a .endless)) (a .accepted) (accepted-yes (a .endless)) .1 .0
 
   -- and the command there is good
-  pub held-good : (n q : ℕ) → readOf b p ≡ Bad n q → ⊥
+  held-good : (n q : ℕ) → readOf b p ≡ Bad n q → ⊥
   held-good n q w =
       let h = here b p (standOf b p) held-at in
       let k : bad n q ≡ good (h .part) = sym (ap (tokOf b p) w) ∙ h .there in
       let z : _≡_ {A = ℕ} 0 1 = cc in
       omega arith
+
+-- what is found at a place is where it stands and what is read there
+pub found-is : (s t : Standing) (r : Reading) (c : Command) → placedOf s r ≡ At t c → (s ≡ t) × (r ≡ Good c)
+found-is Nowhere t r c e = let z : _≡_ {A = ℕ} 0 1 = cc in absurd (omega arith)
+found-is Outside t (Bad n q) c e = let z : _≡_ {A = ℕ} 0 1 = cc in absurd (omega arith)
+found-is Outside t (Good d) c e = let w : Outside ≡ t = cc in let z : d ≡ c = cc in (w, ap Good z)
+found-is (Inside behind number) t (Bad n q) c e = let z : _≡_ {A = ℕ} 0 1 = cc in absurd (omega arith)
+found-is (Inside behind number) t (Good d) c e = let w : Inside behind number ≡ t = cc in let z : d ≡ c = cc in (w, ap Good z)
+
+-- a command at a place that is held is found
+held-found : (s : Standing) (l : Loop) (c : Command) → heldOf s l ≡ true → placedOf s (Good c) ≡ At s c
+held-found Nowhere l c h = let z : _≡_ {A = ℕ} 0 1 = cc in absurd (omega arith)
+held-found Outside l c h = refl
+held-found (Inside behind number) l c h = refl
+
+-- so a place where nothing is found is not held
+pub missing-unheld : (b : List ℕ) (p : ℕ) (l : Loop) → foundOf b p ≡ Missing → heldOf (standOf b p) l ≡ false
+missing-unheld b p l e = go (heldOf (standOf b p) l) refl
+  where
+    by : heldOf (standOf b p) l ≡ true → (r : Reading) → readOf b p ≡ r → ⊥
+    by h (Bad n q) w = held-good b p l h n q w
+    by h (Good c) w =
+        let k : At (standOf b p) c ≡ Missing = sym (held-found (standOf b p) l c h) ∙ ap (placedOf (standOf b p)) (sym w) ∙ e in
+        let z : _≡_ {A = ℕ} 0 1 = cc in
+        omega arith
+
+    go : (t : Bool) → heldOf (standOf b p) l ≡ t → heldOf (standOf b p) l ≡ false
+    go false h = h
+    go true h = absurd (by h (readOf b p) refl)
 
 -- the parts of a sound run, of which a Ready one has no word about the room
 pub record Parts (room : List ℕ) (r : Run) : Type 0 where
@@ -134,5 +159,5 @@ sound-parts room r e =
         }
 
 -- a Busy sound run stands at a command of its accepted body
-pub busy-at : (room : List ℕ) (r : Run) → soundOf room r ≡ true → (r .len ≡ 0 → ⊥) → At (bodyOf room r) (r .place) (standOf (bodyOf room r) (r .place))
+pub busy-at : (room : List ℕ) (r : Run) → soundOf room r ≡ true → (r .len ≡ 0 → ⊥) → StandsAt (bodyOf room r) (r .place) (standOf (bodyOf room r) (r .place))
 busy-at room r e busy = held-at (bodyOf room r) (r .place) (r .inner) (sound-parts room r e .held busy)

@@ -8,6 +8,7 @@ use crate::Stepped;
 use crate::sound::filled;
 use crate::sound::held;
 use crate::sound::rests;
+use judge::Found;
 use judge::find;
 use loops::Role;
 use loops::role_of;
@@ -16,11 +17,11 @@ use perform::Settings;
 use perform::perform;
 use program::Command;
 use program::Kind;
-use program::Reading;
 ghost use mathlib.Core.Path.{_≡_};
 ghost use mathlib.Core.List.{[]};
 ghost use mathlib.Core.Bool.{true};
 ghost use Rattle.program.specs.Command.{readOf};
+ghost use Rattle.program.specs.declared.Reading.the-variants.{Good};
 ghost use Rattle.loops.specs.Token.{roleOf};
 ghost use Rattle.judge.specs.Standing.{standOf};
 ghost use Rattle.machine.specs.Sound.{heldOf};
@@ -123,30 +124,21 @@ impl Run {
         }
     }
 
-    // A Busy run goes on by what is read at its place in the running body.
-    fn run(self, body: &[u8], read: Reading) -> Stepped
-        requires { ⌜ (heldOf (standOf (now body) (self .place)) (self .inner) ≡ true) × (read ≡ readOf (now body) (self .place)) ⌝ }
+    // A Busy run goes on by the command at its place in the running body.
+    fn run(self, body: &[u8], command: Command) -> Stepped
+        requires { ⌜ (heldOf (standOf (now body) (self .place)) (self .inner) ≡ true) × (readOf (now body) (self .place) ≡ Good command) ⌝ }
         ensures { λ r. ⌜ r ≡ ranOf (now (body .entry)) self ⌝ }
     {
         let settings = self.settings;
-        match read {
-            // No sound run stands at such a place.
-            Reading::Refused(_, _) => Stepped {
-                run: self,
-                answer: Answer::Idle,
-            },
-            Reading::Good(command) => {
-                let kind = command.kind;
-                let number = command.number as u8;
-                let text = command.text;
-                let count = command.len;
-                let wide = text_width(body, text, count);
-                let said = perform(kind, number, text, count, wide, settings);
-                Stepped {
-                    run: self.moved(kind, number, command.next),
-                    answer: Answer::Did(said),
-                }
-            }
+        let kind = command.kind;
+        let number = command.number as u8;
+        let text = command.text;
+        let count = command.len;
+        let wide = text_width(body, text, count);
+        let said = perform(kind, number, text, count, wide, settings);
+        Stepped {
+            run: self.moved(kind, number, command.next),
+            answer: Answer::Did(said),
         }
     }
 
@@ -186,11 +178,14 @@ impl Run {
         }
         let body = &room[..len];
         let found = find(body, place);
-        let standing = found.standing;
-        let read = found.read;
-        if !held(standing, inner) {
-            return self.unsound();
+        match found {
+            Found::Nowhere => self.unsound(),
+            Found::At(standing, command) => {
+                if !held(standing, inner) {
+                    return self.unsound();
+                }
+                self.run(body, command)
+            }
         }
-        self.run(body, read)
     }
 }

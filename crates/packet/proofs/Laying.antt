@@ -7,13 +7,9 @@ use native.Mathlib.Numerals.{add-one}
 use lib.ListN.{length, take, drop, getD, set, length-append}
 use lib.Seq.{length-take-le, take-suc}
 use borrow.Rule.Slice.PartMut.{putMid}
-use lib.Dec.{ltb}
-use borrow.Author.Tests.{le-ltb}
 use Rattle.basis.specs.Bytes.{sum, laid}
-use Rattle.basis.proofs.Choices.{when-false}
 use Rattle.basis.proofs.Laid.{laid-at, laid-over, laid-lent, laid-push, take-laid}
 use Rattle.packet.specs.Wire.{checkOf, sealed, frontOf, packetOf}
-use Rattle.packet.specs.Write.{fieldsIn}
 
 pub seal-lays : (o : List ℕ) (at check : ℕ) → at + 2 ≤ length o → check ≡ checkOf (take at o)
     → set (set o at 0) (at + 1) check ≡ laid (sealed (take at o)) o
@@ -70,11 +66,3 @@ module _ (mid id fifth : ℕ) (part o f y : List ℕ) (fits : length part + 7 �
   packet-lays =
       let all = frontOf mid id fifth part in
       ap (λ (r : List ℕ). laid (sealed (take (length part + 5) r)) r) both-laid ∙ seal-laid all o (length part + 5) (omega arith)
-
--- a packet that fits is laid
-pub fields-fit : (mid id fifth : ℕ) (part out : List ℕ) → length part ≤ 14 → length part + 7 ≤ length out
-    → laid (packetOf mid id fifth part) out ≡ fieldsIn mid id fifth part out
-fields-fit mid id fifth part out few room =
-    sym
-    (when-false (ltb 14 (length part)) out _ (le-ltb 14 (length part) few)
-    ∙ when-false (ltb (length out) (length part + 7)) out _ (le-ltb (length out) (length part + 7) room))

@@ -3,7 +3,7 @@ use Prim.Native.Nat.{ℕ, suc, _+_, _-_, _*_, _≤_, _<_, min}
 use mathlib.Core.Path.{_≡_, sym, ap, _∙_}
 use mathlib.Core.List.{List, [], _∷_}
 use native.Mathlib.Omega.{arith}
-use mathlib.Core.Bool.{Bool}
+use mathlib.Core.Bool.{Bool, true}
 use borrow.Author.Tests.{lt-ltb, le-ltb}
 use lib.ListN.{length, take, drop, length-take, length-drop}
 use native.Mathlib.Numerals.{add-one}
@@ -12,13 +12,14 @@ use lib.Dec.{ltb}
 use Rattle.basis.specs.Bytes.{laid}
 use Rattle.basis.specs.Choice.{when}
 use Rattle.basis.specs.Rows.{Row, firstOf}
+use Rattle.basis.proofs.Choices.{when-true}
 use Rattle.basis.proofs.Laid.{laid-lent, length-laid}
 use Rattle.basis.proofs.Tests.{tests}
-use Rattle.packet.specs.Wire.{totalOf, partOf, packetOf, packetAt, packetsOf, transmissionOf}
-use Rattle.packet.specs.Write.{Writes, answerOf, bufferOf, fieldsIn, shortBy, packetRows, transmissionRows}
+use Rattle.packet.specs.Wire.{fifthOf, totalOf, partOf, packetOf, packetAt, packetsOf, transmissionOf}
+use Rattle.packet.specs.Write.{Writes, answerOf, bufferOf, normalFits, normalIn, shortBy, packetRows, transmissionRows}
 use Rattle.packet.specs.declared.write.Written.{Written}
 use Rattle.packet.specs.declared.write.Written.the-variants.{Wrote, Refused}
-use Rattle.packet.proofs.Laying.{fields-fit}
+use Rattle.packet.proofs.Fields.{parts-right, normal-fits}
 use Rattle.packet.proofs.Parts.{packet-length, part-length, part-cut, packets-length, transmission-length}
 
 module _ (rows : List Row) (bytes out : List ℕ) where
@@ -32,15 +33,14 @@ module _ (rows : List Row) (bytes out : List ℕ) where
       { answered = ap Wrote el ∙ ap (λ (k : ℕ). answerOf k bytes) (sym e); left = ea ∙ ap (λ (k : ℕ). bufferOf k bytes out) (sym e) }
 
 -- a packet without data has seven bytes
-pub special-wrote : (mid id : ℕ) (out after : List ℕ) → 7 ≤ length out → after ≡ fieldsIn mid id 0x10 [] out
+pub special-wrote : (mid id : ℕ) (out after : List ℕ) → 7 ≤ length out → after ≡ laid (packetOf mid id 0x10 []) out
     → Writes (shortBy (packetOf mid id 0x10 []) out ∷ []) (packetOf mid id 0x10 []) out (Wrote 7) after
 special-wrote mid id out after room ea =
     let size : length (packetOf mid id 0x10 []) ≡ 7 = packet-length mid id 0x10 [] in
-    let none : 0 ≤ 14 = omega arith in
     wrote (shortBy (packetOf mid id 0x10 []) out ∷ []) (packetOf mid id 0x10 []) out 7 after
     (ap (λ (n : ℕ). when (ltb (length out) n) 34 0) size ∙ ap (λ (b : Bool). when b 34 0) (le-ltb (length out) 7 room))
     (sym size)
-    (ea ∙ sym (fields-fit mid id 0x10 [] out none room))
+    ea
 
 module _ (mid id : ℕ) (body out : List ℕ) (some : length body ≡ 0 → ⊥) (most : length body ≤ 84) (normal : id ≤ 0x3F) where
   module _ (position len : ℕ) (below : position < totalOf body) (cut : len ≡ min (length body - 14 * position) 14) where
@@ -59,17 +59,35 @@ module _ (mid id : ℕ) (body out : List ℕ) (some : length body ≡ 0 → ⊥)
         refused (packetRows mid id body position out) (packetAt mid id body position) out 33
         (packet-room ∙ ap (λ (b : Bool). when b 34 0) (lt-ltb (length out) (len + 7) short))
 
-    pub packet-wrote : (part after : List ℕ) → len + 7 ≤ length out
-        → part ≡ take (14 * position + len - 14 * position) (drop (14 * position) body)
-        → after ≡ laid (packetOf mid id (16 * totalOf body + position) part) out
-        → Writes (packetRows mid id body position out) (packetAt mid id body position) out (Wrote (len + 7)) after
-    packet-wrote part after room ep ea =
-        wrote (packetRows mid id body position out) (packetAt mid id body position) out (len + 7) after
-        (packet-room ∙ ap (λ (b : Bool). when b 34 0) (le-ltb (length out) (len + 7) room))
-        (sym packet-size)
-        (ea
-        ∙ ap (λ (p : List ℕ). laid (packetOf mid id (16 * totalOf body + position) p) out)
-        (ep ∙ part-cut body position len cut))
+    module _ (part : List ℕ) (room : len + 7 ≤ length out)
+        (ep : part ≡ take (14 * position + len - 14 * position) (drop (14 * position) body)) where
+      -- where there is room, the fields of a body's packet are ones that are written
+      pub packet-fits : normalFits id (totalOf body) position part out ≡ true
+      packet-fits =
+          let size : length part ≡ len = ap length (ep ∙ part-cut body position len cut) ∙ omega (arith, part-length body position) in
+          normal-fits mid id (totalOf body) position part out
+          (parts-right id (totalOf body) position (length part)
+          (record {
+            normal = normal;
+            some = omega arith;
+            few = omega arith;
+            least = omega arith;
+            most = omega arith;
+            below = below;
+            full = λ more. omega arith;
+          }))
+          (omega arith)
+
+      pub packet-wrote : (after : List ℕ) → after ≡ normalIn mid id (totalOf body) position part out
+          → Writes (packetRows mid id body position out) (packetAt mid id body position) out (Wrote (len + 7)) after
+      packet-wrote after ea =
+          wrote (packetRows mid id body position out) (packetAt mid id body position) out (len + 7) after
+          (packet-room ∙ ap (λ (b : Bool). when b 34 0) (le-ltb (length out) (len + 7) room))
+          (sym packet-size)
+          (ea
+          ∙ when-true (normalFits id (totalOf body) position part out) (laid (packetOf mid id (fifthOf (totalOf body) position) part) out) out packet-fits
+          ∙ ap (λ (p : List ℕ). laid (packetOf mid id (fifthOf (totalOf body) position) p) out)
+          (ep ∙ part-cut body position len cut))
 
   -- and the same of a transmission
   transmission-room : firstOf (transmissionRows mid id body out)

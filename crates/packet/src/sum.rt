@@ -18,7 +18,7 @@ pub fn sum_of(bytes: &[u8]) -> u8
 }
 
 // The byte that brings an 8-bit sum to 0.
-pub fn negated(total: u8) -> u8
+pub(crate) fn negated(total: u8) -> u8
     ensures { λ r. ⌜ r ≡ (256 - total) % 256 ⌝ }
 {
     std::num::wrapping_sub_u8(0, total)

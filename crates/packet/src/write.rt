@@ -1,4 +1,4 @@
-// Writes one packet of given fields, a query or a reset, into a lent buffer ("The writer gives ..", number 34). A refusal changes no
+// Writes one normal packet of given fields, a query or a reset, into a lent buffer ("The writer gives ..", number 34). A refusal changes no
 // byte, and bytes past the written ones stay.
 use crate::sum::negated;
 ghost use mathlib.Core.Path.{_≡_};
@@ -7,7 +7,7 @@ ghost use Prim.Native.Nat.{_+_, _%_, _≤_};
 ghost use lib.ListN.{length, take};
 ghost use Rattle.basis.specs.Bytes.{sum, laid};
 ghost use Rattle.packet.specs.Wire.{sealed, packetOf, queryOf, resetOf};
-ghost use Rattle.packet.specs.Write.{Writes, shortBy, fieldsIn};
+ghost use Rattle.packet.specs.Write.{Writes, shortBy, rightFields, normalFits, normalIn};
 
 // How many bytes were written, or the number for no.
 pub enum Written {
@@ -63,22 +63,62 @@ fn write_data(part: &[u8], out: &mut [u8]) -> u8
     total
 }
 
-// Lays one packet of these fields at the buffer's front, if its data are no more than a packet holds and it has room.
-pub fn write_fields(mid: u8, id: u8, fifth: u8, part: &[u8], out: &mut [u8])
-    ensures { λ _. ⌜ now (out .exit) ≡ fieldsIn mid id fifth (now (part .entry)) (now (out .entry)) ⌝ }
+// Writes one packet of these bytes and data at the buffer's front.
+fn write_fields(mid: u8, id: u8, fifth: u8, part: &[u8], out: &mut [u8])
+    requires { ⌜ (length (now part) ≤ 14) × (length (now part) + 7 ≤ length (now out)) ⌝ }
+    ensures { λ _. ⌜ now (out .exit) ≡ laid (packetOf mid id fifth (now (part .entry))) (now (out .entry)) ⌝ }
 {
     let len = part.len();
-    if 14 < len {
-        return;
-    }
-    if out.len() < len + 7 {
-        return;
-    }
     let count = (len + 7) as u8;
     write_front(mid, count, id, fifth, out);
     let front = front_sum(mid, count, id, fifth);
     let data = write_data(part, &mut out[5..]);
     seal(std::num::wrapping_add_u8(front, data), len + 5, out);
+}
+
+// Whether these are fields of a normal packet, with so many bytes of data.
+fn right(id: u8, total: u8, position: u8, count: usize) -> bool
+    ensures { λ r. ⌜ r ≡ rightFields id total position count ⌝ }
+{
+    if 0x3f < id {
+        return false;
+    }
+    if count < 1 {
+        return false;
+    }
+    if 14 < count {
+        return false;
+    }
+    if total < 1 {
+        return false;
+    }
+    if 6 < total {
+        return false;
+    }
+    if total <= position {
+        return false;
+    }
+    if position + 1 == total {
+        return true;
+    }
+    count == 14
+}
+
+// The normal packet of these fields, and whether it was written: only fields that the reader accepts, and with room for them.
+pub fn write_normal(mid: u8, id: u8, total: u8, position: u8, part: &[u8], out: &mut [u8]) -> bool
+    ensures answered { λ r. ⌜ r ≡ normalFits id total position (now (part .entry)) (now (out .entry)) ⌝ }
+    ensures left { λ _. ⌜ now (out .exit) ≡ normalIn mid id total position (now (part .entry)) (now (out .entry)) ⌝ }
+{
+    let len = part.len();
+    if !right(id, total, position, len) {
+        return false;
+    }
+    if out.len() < len + 7 {
+        return false;
+    }
+    let fifth = 16 * total + position;
+    write_fields(mid, id, fifth, part, out);
+    true
 }
 
 // A packet without data: a query or a reset.

@@ -43,7 +43,7 @@ fn row_x(y: u8) -> Row
 }
 
 // The row that the two bytes behind a caret name.
-pub fn row(x: u8, y: u8) -> Row
+pub(crate) fn row(x: u8, y: u8) -> Row
     ensures { λ r. ⌜ r ≡ rowAt table (caret ∷ x ∷ y ∷ []) ⌝ }
 {
     if x == b'I' {

@@ -12,9 +12,9 @@ use Rattle.hear.specs.declared.Heard.{Heard}
 use Rattle.reader.proofs.read_packet as reader-read-packet
 use Rattle.reader.proofs.read_packet.Kinds as reader-read-packet-kinds
 use Rattle.reader.proofs.read_packet.Reads as reader-read-packet-reads
-use Rattle.packet.proofs.write_fields as packet-write-fields
-use Rattle.packet.proofs.write_fields.Kinds as packet-write-fields-kinds
-use Rattle.packet.proofs.write_fields.Reads as packet-write-fields-reads
+use Rattle.packet.proofs.write_normal as packet-write-normal
+use Rattle.packet.proofs.write_normal.Kinds as packet-write-normal-kinds
+use Rattle.packet.proofs.write_normal.Reads as packet-write-normal-reads
 use Rattle.packet.proofs.write_query as packet-write-query
 use Rattle.packet.proofs.write_query.Kinds as packet-write-query-kinds
 use Rattle.packet.proofs.write_query.Reads as packet-write-query-reads
@@ -210,10 +210,10 @@ pub one-reader-read-packet : (κs : Lifetimes.Lfts 1) (a : World.ArgsD reader-re
     (s s′ : Clauses.AtExit (K.endedOf 1 reader-read-packet-kinds.ps reader-read-packet-kinds.r) κs) → reader-read-packet-reads.Post κs a r s → reader-read-packet-reads.Post κs a r′ s′ → r ≡ r′
 one-reader-read-packet κs a r r′ s s′ h h′ = one h h′
 
-pub one-packet-write-fields : (κs : Lifetimes.Lfts 2) (a : World.ArgsD packet-write-fields.signature κs) (r r′ : World.ResD packet-write-fields.signature κs)
-    (s s′ : Clauses.AtExit (K.endedOf 2 packet-write-fields-kinds.ps packet-write-fields-kinds.r) κs) → packet-write-fields-reads.Post κs a r s → packet-write-fields-reads.Post κs a r′ s′
-    → now (s .1 .1 .1 .1 .0) ≡ now (s′ .1 .1 .1 .1 .0)
-one-packet-write-fields κs a r r′ s s′ h h′ = one h h′
+pub one-packet-write-normal : (κs : Lifetimes.Lfts 2) (a : World.ArgsD packet-write-normal.signature κs) (r r′ : World.ResD packet-write-normal.signature κs)
+    (s s′ : Clauses.AtExit (K.endedOf 2 packet-write-normal-kinds.ps packet-write-normal-kinds.r) κs) → packet-write-normal-reads.Post κs a r s → packet-write-normal-reads.Post κs a r′ s′
+    → (r ≡ r′) × (now (s .1 .1 .1 .1 .1 .0) ≡ now (s′ .1 .1 .1 .1 .1 .0))
+one-packet-write-normal κs a r r′ s s′ h h′ = (one (h .0) (h′ .0), one (h .1) (h′ .1))
 
 pub one-packet-write-query : (κs : Lifetimes.Lfts 1) (a : World.ArgsD packet-write-query.signature κs) (r r′ : World.ResD packet-write-query.signature κs)
     (s s′ : Clauses.AtExit (K.endedOf 1 packet-write-query-kinds.ps packet-write-query-kinds.r) κs) → packet-write-query-reads.Post κs a r s → packet-write-query-reads.Post κs a r′ s′

@@ -1,7 +1,7 @@
 // Writes a body as packets into a lent buffer ("The writer gives ..", numbers 31 to 34). A refusal changes no byte, and bytes past the
 // written ones stay.
 use packet::Written;
-use packet::write_fields;
+use packet::write_normal;
 ghost use mathlib.Core.Path.{_≡_};
 ghost use Prim.Native.Nat.{min};
 ghost use Rattle.packet.specs.Wire.{packetAt, transmissionOf};
@@ -39,8 +39,8 @@ pub fn write_packet(mid: u8, id: u8, body: &[u8], position: u8, out: &mut [u8]) 
     if out.len() < len + 7 {
         return Written::Refused(34);
     }
-    let fifth = (16 * total + at) as u8;
-    write_fields(mid, id, fifth, &body[from..to], out);
+    // These fields are right and have room, so this answers true.
+    write_normal(mid, id, total as u8, position, &body[from..to], out);
     Written::Wrote(len + 7)
 }
 

@@ -3,7 +3,7 @@ ghost use mathlib.Core.Path.{_≡_};
 ghost use Prim.Native.Nat.{_*_};
 ghost use Rattle.units.specs.Units.{sumOf, capped};
 
-pub fn capped_sum(a: u64, b: u64) -> u64
+pub(crate) fn capped_sum(a: u64, b: u64) -> u64
     ensures { λ r. ⌜ r ≡ sumOf a b ⌝ }
 {
     if u64::MAX - a < b {
@@ -12,7 +12,7 @@ pub fn capped_sum(a: u64, b: u64) -> u64
     a + b
 }
 
-pub fn capped_product(a: u64, b: u64) -> u64
+pub(crate) fn capped_product(a: u64, b: u64) -> u64
     ensures { λ r. ⌜ r ≡ capped (a * b) ⌝ }
 {
     if b == 0 {

@@ -1,14 +1,13 @@
--- `step` refuses an unsound run, rests when Ready, and goes on by what was read when Busy.
-use mathlib.Core.Bool.{true}
-use mathlib.Core.Path.{_≡_, sym, ap, _∙_}
+-- `step` refuses an unsound run, rests when Ready, and goes on by the command that was found when Busy.
+use mathlib.Core.Path.{sym, ap, _∙_}
 use lib.Seq.{length-take-le}
 use borrow.Author.Tests.{not-true, not-false}
 use Rattle.program.specs.Command.{readOf}
 use Rattle.judge.specs.Standing.{standOf}
-use Rattle.judge.specs.declared.Found.{Found}
+use Rattle.judge.specs.declared.Standing.{Standing}
 use Rattle.machine.specs.Sound.{bodyOf, heldOf}
 use Rattle.machine.proofs.Keeps.{step-ready, step-busy, step-unsound}
-use Rattle.machine.proofs.Sounds.{unset, resting, unfilled, running, filled-fits, held-seen}
+use Rattle.machine.proofs.Sounds.{unset, resting, unfilled, running, filled-fits, found-is, missing-unheld}
 use borrow.Author.Needs.{needs}
 use Rattle.machine.proofs.Run.step.Statement.{statement}
 use Rattle.machine.proofs.Run.step.Tie as tie
@@ -70,27 +69,37 @@ slice-aggregate-body c =
 find-requires : tie.Need-find-requires
 find-requires c κs = search needs
 
-held-requires : tie.Need-held-requires
-held-requires c κs = search needs
+enum-told : tie.Need-enum-told
+enum-told c = search needs
 
 unsound-requires-4 : tie.Need-unsound-requires-4
 unsound-requires-4 c κs = search needs
 
+enum-known-found : tie.Need-enum-known-found
+enum-known-found c = search needs
+
+held-requires : tie.Need-held-requires
+held-requires c κs = search needs
+
+unsound-requires-5 : tie.Need-unsound-requires-5
+unsound-requires-5 c κs = search needs
+
 returns-5 : tie.Need-returns-5
 returns-5 c =
-    let a = c .before .before .before .before .before .before .before .before .before .before .before .before .before .args in
-    let set = sym (c .before .before .before .before .before .before .before .before .before .sound .ensures) ∙ not-false _ (c .before .before .before .before .before .before .before .before .if1 .left) in
-    let full = sym (c .before .before .before .before .before .before .filled .ensures) ∙ not-false _ (c .before .before .before .before .before .if4 .left) in
-    let held = ap (λ (x : Found). heldOf (x .standing) (a .self .inner)) (sym (c .before .before .before .find .ensures)) ∙ sym (c .before .before .held .ensures) ∙ not-true _ (c .before .if5 .taken) in
-    c .unsound4 .ensures
-    ∙ sym (step-unsound (a .room .now) (a .self) (running (a .room .now) (a .self) set (c .before .before .before .before .before .before .before .if2 .left) full ∙ held))
+    let a = c .before .before .before .before .before .before .before .before .before .before .before .before .before .before .before .before .args in
+    let set = sym (c .before .before .before .before .before .before .before .before .before .before .before .before .sound .ensures) ∙ not-false _ (c .before .before .before .before .before .before .before .before .before .before .before .if1 .left) in
+    let busy = c .before .before .before .before .before .before .before .before .before .before .if2 .left in
+    let full = sym (c .before .before .before .before .before .before .before .before .before .filled .ensures) ∙ not-false _ (c .before .before .before .before .before .before .before .before .if4 .left) in
+    let found = found-is (standOf (bodyOf (a .room .now) (a .self)) (a .self .place)) _ (readOf (bodyOf (a .room .now) (a .self)) (a .self .place)) _ (sym (c .before .before .before .before .before .before .find .ensures) ∙ c .before .before .before .before .found .given .1) in
+    let held = ap (λ (x : Standing). heldOf x (a .self .inner)) (found .0) ∙ sym (c .before .before .held .ensures) ∙ not-true _ (c .before .if5 .taken) in
+    c .unsound5 .ensures ∙ sym (step-unsound (a .room .now) (a .self) (running (a .room .now) (a .self) set busy full ∙ held))
 
 run-requires : tie.Need-run-requires
 run-requires c κs =
-    let a = c .before .before .before .before .before .before .before .before .before .before .before .before .args in
-    let body = bodyOf (a .room .now) (a .self) in
-    let held : heldOf (standOf body (a .self .place)) (a .self .inner) ≡ true = ap (λ (x : Found). heldOf (x .standing) (a .self .inner)) (sym (c .before .before .find .ensures)) ∙ sym (c .before .held .ensures) ∙ not-false _ (c .if5 .left) in
-    (held, ap (λ (x : Found). x .read) (c .before .before .find .ensures) ∙ held-seen (standOf body (a .self .place)) (a .self .inner) (readOf body (a .self .place)) (a .self .place) held)
+    let a = c .before .before .before .before .before .before .before .before .before .before .before .before .before .before .before .args in
+    let found = found-is (standOf (bodyOf (a .room .now) (a .self)) (a .self .place)) _ (readOf (bodyOf (a .room .now) (a .self)) (a .self .place)) _ (sym (c .before .before .before .before .before .find .ensures) ∙ c .before .before .before .found .given .1) in
+    let held = ap (λ (x : Standing). heldOf x (a .self .inner)) (found .0) ∙ sym (c .before .held .ensures) ∙ not-false _ (c .if5 .left) in
+    (held, found .1)
 
 returns-6 : tie.Need-returns-6
 returns-6 c =
@@ -98,7 +107,18 @@ returns-6 c =
     let set = sym (c .before .before .before .before .before .before .before .before .before .sound .ensures) ∙ not-false _ (c .before .before .before .before .before .before .before .before .if1 .left) in
     let busy = c .before .before .before .before .before .before .before .if2 .left in
     let full = sym (c .before .before .before .before .before .before .filled .ensures) ∙ not-false _ (c .before .before .before .before .before .if4 .left) in
-    let held = ap (λ (x : Found). heldOf (x .standing) (a .self .inner)) (sym (c .before .before .before .find .ensures)) ∙ sym (c .before .before .held .ensures) ∙ not-false _ (c .before .if5 .left) in
+    let none = sym (c .before .before .before .find .ensures) ∙ c .before .enum-told .given .1 in
+    let held = missing-unheld (bodyOf (a .room .now) (a .self)) (a .self .place) (a .self .inner) none in
+    c .unsound4 .ensures ∙ sym (step-unsound (a .room .now) (a .self) (running (a .room .now) (a .self) set busy full ∙ held))
+
+returns-7 : tie.Need-returns-7
+returns-7 c =
+    let a = c .before .before .before .before .before .before .before .before .before .before .before .before .before .before .before .before .args in
+    let set = sym (c .before .before .before .before .before .before .before .before .before .before .before .before .sound .ensures) ∙ not-false _ (c .before .before .before .before .before .before .before .before .before .before .before .if1 .left) in
+    let busy = c .before .before .before .before .before .before .before .before .before .before .if2 .left in
+    let full = sym (c .before .before .before .before .before .before .before .before .before .filled .ensures) ∙ not-false _ (c .before .before .before .before .before .before .before .before .if4 .left) in
+    let found = found-is (standOf (bodyOf (a .room .now) (a .self)) (a .self .place)) _ (readOf (bodyOf (a .room .now) (a .self)) (a .self .place)) _ (sym (c .before .before .before .before .before .before .find .ensures) ∙ c .before .before .before .before .found .given .1) in
+    let held = ap (λ (x : Standing). heldOf x (a .self .inner)) (found .0) ∙ sym (c .before .before .held .ensures) ∙ not-false _ (c .before .if5 .left) in
     c .run .ensures ∙ sym (step-busy (a .room .now) (a .self) (running (a .room .now) (a .self) set busy full ∙ held) busy)
 
 pub step-spec : {M : Type 1} → statement M
@@ -117,8 +137,12 @@ step-spec =
     returns-4
     slice-aggregate-body
     find-requires
-    held-requires
+    enum-told
     unsound-requires-4
+    enum-known-found
+    held-requires
+    unsound-requires-5
     returns-5
     run-requires
-    returns-6)
+    returns-6
+    returns-7)

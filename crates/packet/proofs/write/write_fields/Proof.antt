@@ -1,19 +1,9 @@
 -- `write_fields` lays the front, the data behind it and the seal behind both, and knows their sum from the two that were laid.
 use mathlib.Core.Path.{_∙_}
-use Rattle.basis.proofs.Tests.{tests}
-use Rattle.packet.proofs.Laying.{both-sum, packet-lays, fields-fit}
+use Rattle.packet.proofs.Laying.{both-sum, packet-lays}
 use borrow.Author.Needs.{needs}
 use Rattle.packet.proofs.write.write_fields.Statement.{statement}
 use Rattle.packet.proofs.write.write_fields.Tie as tie
-
-returns : tie.Need-returns
-returns c = search tests
-
-add-if2 : tie.Need-add-if2
-add-if2 c = search needs
-
-returns-2 : tie.Need-returns-2
-returns-2 c = search tests
 
 add-count : tie.Need-add-count
 add-count c = search needs
@@ -47,11 +37,11 @@ add-seal c = search needs
 
 seal-requires : tie.Need-seal-requires
 seal-requires c κs =
-    let a = c .before .before .before .before .before .before .before .before .before .before .before .before .before .before .before .args in
+    let a = c .before .before .before .before .before .before .before .before .before .before .before .before .before .args in
     let f = c .before .before .before .before .before .before .before .before .before .write-front in
     let d = c .before .before .before .before .write-data in (
       search needs,
-      both-sum (a .mid) (a .id) (a .fifth) (a .part .now) (a .out .now) (f .last .1 .1 .1 .1 .0) (d .last .1 .0) (c .before .before .before .before .before .before .before .before .before .before .before .if2 .left) (f .ensures) (d .ensures .0)
+      both-sum (a .mid) (a .id) (a .fifth) (a .part .now) (a .out .now) (f .last .1 .1 .1 .1 .0) (d .last .1 .0) (c .before .before .before .before .before .before .before .before .before .before .before .before .before .pre .1) (f .ensures) (d .ensures .0)
           (c .before .wrapping-add-u8 .result)
           (c .before .before .before .before .before .before .front-sum .result)
           (d .result)
@@ -63,22 +53,18 @@ seal-requires c κs =
 same-length : tie.Need-same-length
 same-length c = search needs
 
-returns-3 : tie.Need-returns-3
-returns-3 c =
-    let a = c .before .before .before .before .before .before .before .before .before .before .before .before .before .before .before .before .before .before .args in
+returns : tie.Need-returns
+returns c =
+    let a = c .before .before .before .before .before .before .before .before .before .before .before .before .before .before .before .before .args in
     let f = c .before .before .before .before .before .before .before .before .before .before .before .before .write-front in
     let d = c .before .before .before .before .before .before .before .write-data in
     c .before .before .seal .ensures
-    ∙ packet-lays (a .mid) (a .id) (a .fifth) (a .part .now) (a .out .now) (f .last .1 .1 .1 .1 .0) (d .last .1 .0) (c .before .before .before .before .before .before .before .before .before .before .before .before .before .before .if2 .left) (f .ensures) (d .ensures .0)
-    ∙ fields-fit (a .mid) (a .id) (a .fifth) (a .part .now) (a .out .now) (c .before .before .before .before .before .before .before .before .before .before .before .before .before .before .before .if1 .left) (c .before .before .before .before .before .before .before .before .before .before .before .before .before .before .if2 .left)
+    ∙ packet-lays (a .mid) (a .id) (a .fifth) (a .part .now) (a .out .now) (f .last .1 .1 .1 .1 .0) (d .last .1 .0) (c .before .before .before .before .before .before .before .before .before .before .before .before .before .before .before .before .pre .1) (f .ensures) (d .ensures .0)
 
 pub write-fields-spec : {M : Type 1} → statement M
 write-fields-spec =
     tie.close
     (tie.spec
-    returns
-    add-if2
-    returns-2
     add-count
     cast-count
     write-front-requires
@@ -91,4 +77,4 @@ write-fields-spec =
     add-seal
     seal-requires
     same-length
-    returns-3)
+    returns)

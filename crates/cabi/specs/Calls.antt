@@ -8,7 +8,7 @@ use lib.ListN.{length}
 use Rattle.basis.specs.Bytes.{laid}
 use Rattle.basis.specs.Choice.{when}
 use Rattle.basis.specs.Rows.{Row, _if_, firstOf}
-use Rattle.packet.specs.Write.{answerOf, bufferOf}
+use Rattle.packet.specs.Write.{shortBy, answerOf, bufferOf}
 use Rattle.reader.specs.Read.{readOf, toldOf}
 use Rattle.reply.specs.Reply.{heardOf, numberOf as heardNo}
 use Rattle.reckon.specs.Forecast.{forecastOf}
@@ -18,7 +18,6 @@ use Rattle.sign.specs.Sound.{soundOf}
 use Rattle.sign.specs.Reset.{powerOn, clearedOf}
 use Rattle.sign.specs.Receive.{receiveOf}
 use Rattle.sign.specs.Step.{stepOf}
-use Rattle.sign.specs.Tell.{toldRows}
 use Rattle.sign.specs.declared.Sign.{Sign}
 use Rattle.image.specs.Layout.{imageOf, recordOf}
 use Rattle.words.specs.Words.{wordsOf, wroteOf}
@@ -66,21 +65,25 @@ keptOf number as-was next = when (eqb number 0) next as-was
 abbrev pub receiveNo : (image : List ℕ) → ℕ → (bytes answer : List ℕ) → ℕ
 receiveNo image mid bytes answer = firstOr (guarded image (answerRow 100 answer ∷ [])) (numberOf (receiveOf (recordOf image) mid bytes .outcome))
 
+-- the image after it: that of the next record
 abbrev pub receiveImage : (image : List ℕ) → ℕ → (bytes answer : List ℕ) → List ℕ
 receiveImage image mid bytes answer = keptOf (receiveNo image mid bytes answer) image (imageOf (receiveOf (recordOf image) mid bytes .sign))
 
+-- and what is told of it
 abbrev pub receiveAnswer : (image : List ℕ) → ℕ → (bytes answer : List ℕ) → List ℕ
 receiveAnswer image mid bytes answer =
     let x = receiveOf (recordOf image) mid bytes in
     keptOf (receiveNo image mid bytes answer) answer (laid (receivedBytes (x .outcome) (x .body) (x .len)) answer)
 
--- power-on and reset
+-- power-on
 abbrev pub powerImage : List ℕ → List ℕ
 powerImage image = keptOf (firstOf (imageRow image ∷ [])) image (imageOf powerOn)
 
+-- a reset
 abbrev pub resetNo : List ℕ → ℕ
 resetNo image = firstOr (guarded image []) (numberOf (clearedOf (recordOf image) .outcome))
 
+-- the image after it
 abbrev pub resetImage : List ℕ → List ℕ
 resetImage image = keptOf (resetNo image) image (imageOf (clearedOf (recordOf image) .sign))
 
@@ -88,12 +91,14 @@ resetImage image = keptOf (resetNo image) image (imageOf (clearedOf (recordOf im
 abbrev pub stepNo : (image answer : List ℕ) → ℕ
 stepNo image answer = firstOr (guarded image (answerRow 28 answer ∷ [])) (stepNumber (stepOf (recordOf image) .answer))
 
+-- the image after it
 abbrev pub stepImage : (image answer : List ℕ) → List ℕ
 stepImage image answer = keptOf (stepNo image answer) image (imageOf (stepOf (recordOf image) .sign))
 
+-- and what is told of it
 abbrev pub stepAnswer : (image answer : List ℕ) → List ℕ
 stepAnswer image answer = keptOf (stepNo image answer) answer (laid (wordsOf (stepWords (stepOf (recordOf image) .answer))) answer)
 
--- the reply to a query, and a copy of the running body: 251 comes before their own numbers
+-- the reply to a query, and a copy of the running body: the guard, then 34
 abbrev pub tellRows : (bytes : Sign → List ℕ) → (image out : List ℕ) → List Row
-tellRows bytes image out = imageRow image ∷ toldRows (recordOf image) (bytes (recordOf image)) out
+tellRows bytes image out = guarded image (shortBy (bytes (recordOf image)) out ∷ [])

@@ -17,6 +17,7 @@ pub record Collection : Type 0 where
   pub lens : List ℕ
   pub room : List ℕ
 
+-- slots and a room as a collection, and the slots of a collection
 abbrev pub collectionOf : Slots → List ℕ → Collection
 collectionOf s room = record { id = s .id; total = s .total; lens = s .lens; room = room }
 

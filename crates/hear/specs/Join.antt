@@ -52,6 +52,7 @@ pub record Left : Type 0 where
   pub collection : Collection
   pub len : ℕ
 
+-- an answer and the room as it was left
 abbrev pub leftOf : Heard → List ℕ → Left
 leftOf h room = record { outcome = h .outcome; last = h .last; collection = collectionOf (h .slots) room; len = h .len }
 
@@ -75,6 +76,7 @@ releasedOf id body = record { outcome = Released (judgeOf body); last = id; coll
 abbrev pub wholeOf : Collection → Left
 wholeOf c = releasedOf (c .id) (joinedOf (c .lens) (c .room))
 
+-- Released if all N are held, otherwise Stored
 abbrev pub countOf : ℕ → Collection → Left
 countOf last c = countBy (λ (d : Collection). stayOf last d Stored) wholeOf c
 

@@ -5,7 +5,7 @@ use mathlib.Core.Path.{_≡_, refl, sym, ap, _∙_, subst}
 use mathlib.Core.Logic.{dite}
 use native.Mathlib.Decide.{decLt}
 use native.Mathlib.Omega.{arith}
-use lib.ListN.{length}
+use lib.ListN.{length, take}
 use Rattle.perform.specs.declared.settings.Settings.{Settings}
 use Rattle.perform.specs.declared.price.Performed.{Performed}
 use Rattle.loops.specs.Token.{Part, Tok, good}
@@ -31,6 +31,16 @@ module _ (g : ℕ → Tok) (len : ℕ) where
       ap (λ (x : Said). x ∷ answersOf g len (length xs) (nextOf g len (at p fs σ))) (said-is c p fs σ e)
       ∙ ap (λ (s : State). did (saysOf c σ) ∷ answersOf g len (length xs) s) (next-is c p fs σ e)
       ∙ ap (λ (ys : List Said). did (saysOf c σ) ∷ ys) (runs-answers r)
+
+  -- fewer steps answer the first of them
+  pub runs-first : {s t : State} {xs : List Performed} → Runs g len s xs t → (k : ℕ) → k ≤ length xs → answersOf g len k s ≡ map did (take k xs)
+  runs-first r zero h = refl
+  runs-first done (suc k) h = absurd (omega arith)
+  runs-first (more {p} {fs} {σ} {xs} c e r) (suc k) h =
+      let less : k ≤ length xs = omega arith in
+      ap (λ (x : Said). x ∷ answersOf g len k (nextOf g len (at p fs σ))) (said-is c p fs σ e)
+      ∙ ap (λ (s : State). did (saysOf c σ) ∷ answersOf g len k s) (next-is c p fs σ e)
+      ∙ ap (λ (ys : List Said). did (saysOf c σ) ∷ ys) (runs-first r k less)
 
   -- before that the sign is Busy
   pub runs-busy : {s t : State} {xs : List Performed} → Runs g len s xs t → (k : ℕ) → k < length xs → Busy (afterOf g len k s)

@@ -8,3 +8,4 @@ pub mod Runs
 pub mod Stands
 pub mod Sums
 pub mod Theorem
+pub mod Rounds

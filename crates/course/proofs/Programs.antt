@@ -14,14 +14,10 @@ use Rattle.judge.specs.Verdict.{commandsOf, judgeOf}
 use Rattle.judge.specs.declared.Verdict.{Verdict}
 use Rattle.judge.specs.declared.Verdict.the-variants.{Finite, Endless, Refused}
 use Rattle.loops.proofs.Tokens.{get-two}
-use Rattle.course.specs.Tree.{Block, Ending, Pending, Tree, buildOf, treeOf, flat, flatEnd, partsOf}
+use Rattle.course.specs.Tree.{Block, Ending, Pending, buildOf, treeIn, flat, flatEnd, partsOf}
 use Rattle.course.proofs.Accepts.{Yes, Accepted, accepted, shape, Depth}
 use Rattle.course.proofs.Runs.{At}
 use Rattle.course.proofs.Stands.{at-tokens}
-
--- the tree of a body
-abbrev pub treeIn : List ℕ → Tree
-treeIn b = treeOf (tokensOf b 0)
 
 pub record Program (b : List ℕ) (v : Verdict) : Type 0 where
   pub some : 0 < length b

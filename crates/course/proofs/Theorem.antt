@@ -13,14 +13,14 @@ use Rattle.judge.specs.Verdict.{judgeOf}
 use Rattle.judge.specs.declared.Verdict.the-variants.{Finite, Endless}
 use Rattle.loops.proofs.Tokens.{get-two, get-within}
 use Rattle.course.specs.Steps.{frame, State, ready, at, settle, did, Busy, saysOf, afterOf, answersOf, started}
-use Rattle.course.specs.Tree.{Block, stop, one, loop, Ending, ends, starts, ever, exitOf, unrolled, flat, flatEnd}
+use Rattle.course.specs.Tree.{Block, stop, one, loop, Ending, ends, starts, ever, exitOf, unrolled, flat, flatEnd, treeIn}
 use Rattle.course.specs.Price.{sumBy, ones, priceOf}
 use Rattle.course.proofs.Accepts.{shape}
 use Rattle.course.proofs.Bound.{most-steps}
 use Rattle.course.proofs.Changes.{Counted}
 use Rattle.course.proofs.Courses.{runs-after, runs-busy, runs-answers, never, led}
 use Rattle.loops.proofs.Values.{get-loop}
-use Rattle.course.proofs.Programs.{treeIn, Program, program}
+use Rattle.course.proofs.Programs.{Program, program}
 use Rattle.course.proofs.Runs.{Runs, done, At, past, at-past, tick, runs-append, settle-ready, block-runs}
 use Rattle.course.proofs.Sums.{price-is}
 
@@ -44,7 +44,7 @@ past-within b (loop n z body t) k p w h =
     let e = at-past (get b) (length b) body (close ∷ flat t k) (p + z) (h .1 .1) in
     past-within b t k (past body (p + z) + 2) (get-within b (past body (p + z)) close (e .1 .0)) (e .1 .1)
 
-loops-count : (b : List ℕ) (p n z : ℕ) → get b p ≡ good (rep n z) → 1 ≤ n
+pub loops-count : (b : List ℕ) (p n z : ℕ) → get b p ≡ good (rep n z) → 1 ≤ n
 loops-count b p n z e = get-loop b p n z e .least
 
 -- as many commands as ones

@@ -4,7 +4,7 @@ use Prim.Native.Nat.{ℕ, zero, suc, _+_}
 use mathlib.Core.List.{List, [], _∷_, _++_}
 use Rattle.perform.specs.declared.settings.Settings.{Settings}
 use Rattle.perform.specs.declared.price.Performed.{Performed}
-use Rattle.loops.specs.Token.{Act, Part, act, rep, close, forever, again, Tok, good, bad}
+use Rattle.loops.specs.Token.{Act, Part, act, rep, close, forever, again, Tok, good, bad, tokensOf}
 use Rattle.course.specs.Steps.{saysOf, setsOf}
 
 -- commands and loops in a row; a loop has a number and the size of its `L`
@@ -59,6 +59,10 @@ buildOf (t ∷ ts) = builtTok t (buildOf ts)
 abbrev pub treeOf : List Tok → Tree
 treeOf ts = record { block = buildOf ts .block; ending = buildOf ts .ending }
 
+-- the tree of a body
+abbrev pub treeIn : List ℕ → Tree
+treeIn b = treeOf (tokensOf b 0)
+
 -- n times
 abbrev pub times : {A : Type 0} → ℕ → (A → A) → A → A
 times zero f x = x
@@ -81,6 +85,21 @@ unrolled stop σ = []
 unrolled (one a b) σ = saysOf (act a) σ ∷ unrolled b (setsOf a σ)
 unrolled (loop n z body b) σ =
     saysOf (rep n z) σ ∷ (passes n (unrolled body) (exitOf body) σ ++ unrolled b (times n (exitOf body) σ))
+
+-- so many rounds of a block, each from the settings that the round before left, and each ended by the command that goes back
+abbrev pub rounds : ℕ → Part → Block → Settings → List Performed
+rounds zero back t σ = []
+rounds (suc m) back t σ = unrolled t σ ++ (saysOf back (exitOf t σ) ∷ rounds m back t (exitOf t σ))
+
+-- what an endless program performs in so many rounds: by `R` all of it again and again; by `F` what stands before its loop and the `L`
+-- once, then what follows the `L`, up to and with the `F`, again and again
+abbrev pub endedBy : Ending → ℕ → Block → Settings → List Performed
+endedBy ends m t σ = unrolled t σ
+endedBy starts m t σ = rounds m again t σ
+endedBy (ever n z body) m t σ = unrolled t σ ++ (saysOf (rep n z) (exitOf t σ) ∷ rounds m forever body (exitOf t σ))
+
+abbrev pub endlessly : ℕ → Tree → Settings → List Performed
+endlessly m t σ = endedBy (t .ending) m (t .block) σ
 
 -- the commands of a block in front of others
 abbrev pub flat : Block → List Part → List Part

@@ -5,7 +5,7 @@ use mathlib.Core.List.{List, [], _∷_, map}
 use mathlib.Core.Bool.{Bool, true, false}
 use mathlib.Core.Path.{_≡_, refl, sym, ap, _∙_, subst}
 use native.Mathlib.Omega.{arith}
-use lib.ListN.{length}
+use lib.ListN.{length, take}
 use Rattle.perform.specs.Settings.{soundOf as settingsSound}
 use Rattle.perform.specs.declared.settings.Settings.{Settings}
 use Rattle.perform.specs.declared.price.Performed.{Performed}
@@ -14,11 +14,12 @@ use Rattle.judge.specs.Verdict.{judgeOf}
 use Rattle.grammar.specs.Grammar.{acceptedAs}
 use Rattle.judge.specs.declared.Verdict.the-variants.{Finite, Endless}
 use Rattle.course.specs.Steps.{State, ready, at, did, Busy, started, afterOf, answersOf}
-use Rattle.course.specs.Tree.{exitOf}
-use Rattle.course.proofs.Programs.{treeIn, program}
+use Rattle.course.specs.Tree.{exitOf, treeIn}
+use Rattle.course.proofs.Programs.{program}
 use Rattle.course.proofs.Runs.{settle-at}
+use Rattle.course.proofs.Rounds.{endless-performs}
 use Rattle.course.proofs.Theorem.{finite-ends, endless-never}
-use Rattle.machine.specs.Line.{lineOf, performed as answersFor}
+use Rattle.machine.specs.Line.{lineOf, roundsOf, performed as answersFor}
 use Rattle.machine.specs.Sound.{soundOf}
 use Rattle.room.specs.Room.{roomOf}
 use Rattle.machine.specs.Step.{readyOf, runOf, sayOf, stepOf, afterRun, saidRun, startedOf}
@@ -97,6 +98,13 @@ line-never b e σ set k =
     let p = program b Endless e tt in
     subst BusyRun (sym (line-follows b true e σ set (p .some) k))
     (busy-run b true e σ set (p .some) (afterOf (get b) (length b) k (started (length b) σ)) (endless-never b e σ k))
+
+-- its first answers are the first of what its rounds perform, however many are asked for: so no step of it is refused
+pub line-goes : (b : List ℕ) → judgeOf b ≡ Endless → (σ : Settings) → settingsSound σ ≡ true → (k : ℕ)
+    → saidRun k (roomOf b) (startedOf (length b) σ) ≡ answersFor (take k (roundsOf k b σ))
+line-goes b e σ set k =
+    let p = program b Endless e tt in
+    line-says b true e σ set (p .some) k ∙ ap (map sayOf) (endless-performs b e σ k) ∙ said-are (take k (roundsOf k b σ))
 
 -- and every run on the way is sound
 pub after-sound : (k : ℕ) (room : List ℕ) (r : Run) → soundOf room r ≡ true → soundOf room (afterRun k room r) ≡ true

@@ -10,7 +10,7 @@ use Rattle.program.specs.Command.{readOf as commandAt}
 use Rattle.perform.specs.Price.{answerOf}
 use Rattle.judge.specs.Verdict.{judgeOf}
 use Rattle.judge.specs.declared.Verdict.the-variants.{Finite}
-use Rattle.course.proofs.Programs.{treeIn}
+use Rattle.course.specs.Tree.{treeIn}
 use Rattle.reckon.specs.Forecast.{settingsAt, forecastOf}
 use Rattle.machine.specs.Step.{readyOf}
 use Rattle.reckon.specs.Forecast.{pricesOf}

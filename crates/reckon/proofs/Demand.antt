@@ -13,10 +13,9 @@ use Rattle.perform.specs.declared.settings.Settings.{Settings}
 use Rattle.perform.specs.declared.price.Performed.{Performed}
 use Rattle.judge.specs.Verdict.{judgeOf}
 use Rattle.judge.specs.declared.Verdict.the-variants.{Finite, Endless}
-use Rattle.course.specs.Tree.{unrolled}
+use Rattle.course.specs.Tree.{unrolled, treeIn}
 use Rattle.course.specs.Price.{sumBy, ones, scans, millis, priceOf}
 use Rattle.course.proofs.Agrees.{Cares, price-agree, ones-care, scans-care, millis-care}
-use Rattle.course.proofs.Programs.{treeIn}
 use Rattle.machine.specs.Line.{lineOf}
 use Rattle.course.proofs.Theorem.{finite-ends}
 use Rattle.reckon.specs.Forecast.{settingsAt, forecastOf}

@@ -16,7 +16,7 @@ use Rattle.judge.specs.Verdict.{judgeOf}
 use Rattle.judge.specs.declared.Verdict.{Verdict}
 use Rattle.judge.specs.declared.Verdict.the-variants.{Finite}
 use Rattle.course.specs.Price.{sumBy, ones, scans, millis, priceOf}
-use Rattle.course.proofs.Programs.{treeIn}
+use Rattle.course.specs.Tree.{treeIn}
 use Rattle.course.proofs.Theorem.{finite-ends}
 use Rattle.machine.specs.Line.{lineOf, performed}
 use Rattle.room.specs.Room.{roomOf}

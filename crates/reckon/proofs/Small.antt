@@ -24,9 +24,9 @@ use Rattle.judge.specs.Verdict.{judgeOf}
 use Rattle.judge.specs.declared.Verdict.the-variants.{Finite}
 use Rattle.loops.proofs.Values.{get-act}
 use Rattle.course.specs.Steps.{saysOf, setsOf}
-use Rattle.course.specs.Tree.{Block, stop, one, loop, flat}
+use Rattle.course.specs.Tree.{Block, stop, one, loop, flat, treeIn}
 use Rattle.course.specs.Price.{ones, scans, millis, leavesOf, priceOf, firstThen}
-use Rattle.course.proofs.Programs.{treeIn, program}
+use Rattle.course.proofs.Programs.{program}
 use Rattle.course.proofs.Runs.{At, past, at-past}
 use Rattle.course.proofs.Theorem.{finite-ends, finite-stands}
 use Rattle.machine.proofs.Commands.{range-byte}

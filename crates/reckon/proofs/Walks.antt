@@ -26,7 +26,7 @@ use Rattle.loops.proofs.Values.{get-loop}
 use Rattle.totals.specs.Totals.{noneOf, plusOf, timesOf}
 use Rattle.totals.specs.declared.Totals.{Totals}
 use Rattle.course.specs.Price.{leavesOf}
-use Rattle.course.proofs.Programs.{treeIn}
+use Rattle.course.specs.Tree.{treeIn}
 use Rattle.reckon.specs.Forecast.{pricesOf, byVerdict, toldOf}
 use Rattle.reckon.specs.Reckon.{addedOf, passOf, laterOf, entryOf, closedOf, takenOf, summedOf, Counts, Passing}
 use Rattle.reckon.specs.declared.reckon.Reckoned.{Reckoned}

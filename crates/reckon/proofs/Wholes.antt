@@ -11,11 +11,11 @@ use Rattle.judge.specs.Verdict.{judgeOf}
 use Rattle.judge.specs.declared.Verdict.the-variants.{Finite}
 use Rattle.loops.proofs.Tokens.{tokens-first}
 use Rattle.course.specs.Steps.{saysOf, setsOf}
-use Rattle.course.specs.Tree.{Block, stop, one, loop, flat}
+use Rattle.course.specs.Tree.{Block, stop, one, loop, flat, treeIn}
 use Rattle.course.specs.Price.{ones, scans, millis, leavesOf, priceOf}
 use Rattle.course.proofs.Accepts.{Depth}
 use Rattle.loops.proofs.Values.{get-loop}
-use Rattle.course.proofs.Programs.{treeIn, program}
+use Rattle.course.proofs.Programs.{program}
 use Rattle.course.proofs.Runs.{At, past, at-past}
 use Rattle.course.proofs.Theorem.{finite-stands}
 use Rattle.reckon.specs.Reckon.{addedOf, strideOf, passOf, laterOf}

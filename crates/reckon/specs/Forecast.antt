@@ -16,8 +16,7 @@ use Rattle.loops.specs.declared.Flow.{Flow}
 use Rattle.judge.specs.declared.Verdict.{Verdict}
 use Rattle.judge.specs.declared.Verdict.the-variants.{Finite, Endless, Refused}
 use Rattle.course.specs.Price.{ones, scans, millis, priceOf}
-use Rattle.course.specs.Tree.{Block}
-use Rattle.course.proofs.Programs.{treeIn}
+use Rattle.course.specs.Tree.{Block, treeIn}
 use Rattle.room.specs.Room.{roomOf}
 use Rattle.machine.specs.Step.{stepOf, startedOf}
 use Rattle.totals.specs.Totals.{totalsOf}

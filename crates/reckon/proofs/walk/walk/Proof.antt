@@ -10,7 +10,7 @@ use Rattle.judge.specs.declared.Verdict.{Verdict}
 use Rattle.loops.proofs.Moves.{turned-is}
 use Rattle.judge.proofs.Turns.{place-grows, on-stop, begun-front}
 use Rattle.course.specs.Price.{leavesOf}
-use Rattle.course.proofs.Programs.{treeIn}
+use Rattle.course.specs.Tree.{treeIn}
 use Rattle.reckon.specs.Forecast.{pricesOf, byVerdict}
 use Rattle.reckon.proofs.Walks.{Stands, stands-next, stands-end, stands-first}
 use borrow.Author.Needs.{needs}

@@ -2,4 +2,3 @@ pub mod Grammars
 pub mod Refusals
 pub mod Fronts
 pub mod Standings
-pub mod Examples

@@ -6,4 +6,3 @@
 //   proofs/Fronts     the carets of an accepted body are the fronts of its commands
 //   proofs/Refusals   the number and place of a refusal are those of the first
 //   proofs/Standings  exactly the places at a command stand anywhere, in the innermost loop that is open there
-//   proofs/Examples   the refusals that 01 gives as examples

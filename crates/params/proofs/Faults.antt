@@ -6,10 +6,11 @@ use mathlib.Core.Bool.{Bool, true, false}
 use mathlib.Core.List.{List, [], _∷_}
 use native.Mathlib.Omega.{arith}
 use native.Mathlib.Numerals.{add-one}
-use borrow.Author.Tests.{eqb-true, eqb-false}
+use borrow.Author.Tests.{eqb-true, eqb-false, eq-eqb}
 use lib.Dec.{eqb}
 use lib.ListN.{length, getD}
 use Rattle.basis.specs.Choice.{when}
+use Rattle.basis.proofs.Choices.{when-true}
 use Rattle.params.specs.Bytes.{caret, firstOf}
 use Rattle.params.specs.Text.{wrongOf, textOf, wrongAt}
 use Rattle.params.specs.declared.Parameter.the-variants.{Right, Wrong}
@@ -75,3 +76,16 @@ first-fault at n r ds e =
 -- a right text: no byte is at fault
 pub no-fault : (at n r : ℕ) (ds : List ℕ) → textOf 0 0 at ds ≡ Right r n → (i : ℕ) → i < length ds → wrongAt ds i ≡ 0
 no-fault at n r ds e i h = at-place ds i ∙ none-from 0 0 at n r ds e i h
+
+-- where no byte is at fault the text is right, to its end
+right-from : (q p at : ℕ) (ds : List ℕ) → ((i : ℕ) → i < length ds → behind q p ds i ≡ 0) → textOf q p at ds ≡ Right (at + length ds) 0
+right-from q p at [] h = let e : at ≡ at + 0 = omega arith in ap (λ (n : ℕ). Right n 0) e
+right-from q p at (x ∷ xs) h =
+    let here : wrongOf q p x (firstOf xs) ≡ 0 = ap (wrongOf q p x) (first-is xs) ∙ h 0 (omega arith) in
+    let end : at + 1 + length xs ≡ at + suc (length xs) = omega arith in
+    when-true (eqb (wrongOf q p x (firstOf xs)) 0) (textOf p x (at + 1) xs) (Wrong (wrongOf q p x (firstOf xs)) at) (eq-eqb (wrongOf q p x (firstOf xs)) 0 here)
+    ∙ right-from p x (at + 1) xs (λ i l. h (suc i) (omega arith))
+    ∙ ap (λ (n : ℕ). Right n 0) end
+
+pub right-text : (at : ℕ) (ds : List ℕ) → ((i : ℕ) → i < length ds → wrongAt ds i ≡ 0) → textOf 0 0 at ds ≡ Right (at + length ds) 0
+right-text at ds h = right-from 0 0 at ds (λ i l. sym (at-place ds i) ∙ h i l)

@@ -1,28 +1,39 @@
--- Ours keeps the promises of the record; a joiner of one fixed body, a sign that starts over and one that a refusal shakes do not.
+-- Ours keeps the promises of the record; a joiner of one fixed body, a sign that starts over, one that a refusal shakes, one that is frozen and
+-- one that forgets do not.
 use Prim.Native.Nat.{ℕ, zero, suc, _*_, _≤_, _<_}
 use mathlib.Core.List.{List, []}
 use mathlib.Core.Path.{_≡_, refl, sym, ap, _∙_}
+use mathlib.Core.Bool.{not}
 use native.Mathlib.Omega.{arith}
+use lib.Dec.{eqb}
 use lib.ListN.{length, getD, take, drop}
 use lib.Seq.{getD-take}
+use borrow.Author.Tests.{eq-eqb, ne-eqb}
+use Rattle.basis.proofs.Choices.{when-true, when-false}
 use Rattle.packet.specs.Wire.{fifthOf, totalOf, partOf, packetAt, transmissionOf}
 use Rattle.packet.proofs.Stands.{at-length, packet-stands, count-stands}
 use Rattle.reader.specs.Read.{readOf}
-use Rattle.reader.specs.declared.read.Reading.the-variants.{Reset as ResetRead, Refused as Unread}
+use Rattle.reader.specs.declared.read.Reading.the-variants.{Reset as ResetRead, Normal, Refused as Unread}
 use Rattle.collect.specs.Slots.{begunOf}
 use Rattle.machine.specs.Step.{readyOf, startedOf}
 use Rattle.service.specs.Delivery.{Awaits, Delivered, afterPackets, answerTo}
 use Rattle.hear.specs.Join.{bodyIn}
-use Rattle.sign.specs.Join.{signOf, staysOf}
-use Rattle.sign.specs.Receive.{receiveOf}
-use Rattle.sign.specs.Reset.{freshOf, powerOn, startSettings}
+use Rattle.sign.specs.Join.{signOf, staysOf, joinOf}
+use Rattle.sign.specs.Receive.{heardOf, receiveOf}
+use Rattle.sign.specs.Sound.{soundOf}
+use Rattle.sign.specs.Reset.{freshOf, resetOf, powerOn, clearedOf, startSettings}
 use Rattle.sign.specs.declared.Sign.{Sign}
 use Rattle.sign.specs.declared.Received.{Received}
+use Rattle.sign.specs.declared.Cleared.{Cleared}
+use Rattle.sign.proofs.Joining.{sound-receives}
+use Rattle.sign.proofs.Stepping.{sound-steps}
+use Rattle.hear.specs.declared.Outcome.the-variants.{Repeat, Refused}
+use Rattle.service.specs.Good.{Good}
 use Rattle.service.proofs.Keeps.{power-good, receive-good, step-good, cleared-good}
 use Rattle.service.proofs.Driver.{receive-still, step-still, reset-still, busy-stays}
 use Rattle.service.proofs.Deliveries.{delivers}
 use Rattle.promises.specs.Bench.{hi}
-use Rattle.promises.specs.Record.{NoTrip, Gets, Delivers, LetsRun, cutOf, behind, told, ours, fixed, startingOver, shaken}
+use Rattle.promises.specs.Record.{NoTrip, Gets, Delivers, LetsRun, Answers, cutOf, behind, told, ours, fixed, startingOver, shaken, frozen, forgetful}
 
 pub ours-never-trips : NoTrip ours
 ours-never-trips =
@@ -78,6 +89,25 @@ ours-delivers s good mid id body known some most waits =
 pub ours-lets-run : LetsRun ours
 ours-lets-run = busy-stays
 
+pub ours-answers : Answers ours
+unfolding joinOf clearedOf
+ours-answers =
+    record {
+      repeats = λ s good mid b total position len e.
+          heard s good mid b (s .last) total position len e ∙ when-true (eqb (s .last) (s .last)) (staysOf s Repeat) _ (eq-eqb (s .last) (s .last) refl);
+      waits = λ s good busy mid b id total position len other e.
+          heard s good mid b id total position len e
+          ∙ when-false (eqb id (s .last)) (staysOf s Repeat) _ (ne-eqb id (s .last) other)
+          ∙ when-true (not (eqb (s .run .len) 0)) (staysOf s (Refused 12)) _ (ap not (ne-eqb (s .run .len) 0 busy));
+      steps = λ s good. sound-steps s (good .sound);
+      powers = refl;
+      clears = λ s good. when-true (soundOf s) _ _ (good .sound);
+    }
+  where
+    heard : (s : Sign) → Good s → (mid : ℕ) (b : List ℕ) (id total position len : ℕ) → readOf mid b ≡ Normal id total position len
+        → receiveOf s mid b ≡ joinOf s id total position (take len (drop 5 b))
+    heard s good mid b id total position len e = sound-receives s mid b (good .sound) ∙ ap (heardOf s b) e
+
 -- a new sign awaits any number of a message
 awaiting : Awaits powerOn 5
 unfolding freshOf readyOf begunOf
@@ -113,4 +143,27 @@ pub shaken-fails : NoTrip shaken → ⊥
 unfolding showing freshOf readyOf startedOf staysOf
 shaken-fails t =
     let n : _≡_ {A = ℕ} 0 5 = ap (λ (s : Sign). s .run .len) (t .receive-stays showing 0x80 [] refl) in
+    omega arith
+
+-- a sign that got a line
+abbrev got : Sign
+got = told ours powerOn 0x80 5 hi 0 .sign
+
+got-good : Good got
+got-good = receive-good powerOn 0x80 (cutOf (transmissionOf 0x80 5 hi) 0) power-good
+
+got-last : got .last ≡ 5
+got-last = ours-delivers powerOn power-good 0x80 5 hi (omega arith) (omega arith) (omega arith) awaiting .last 0 refl
+
+pub frozen-fails : Answers frozen → ⊥
+unfolding freshOf
+frozen-fails a =
+    let e : got ≡ resetOf got = ap (λ (x : Cleared). x .sign) (a .clears got got-good) in
+    let n : got .last ≡ 0x41 = ap (λ (s : Sign). s .last) e in
+    omega (arith, got-last)
+
+pub forgetful-fails : Delivers forgetful → ⊥
+unfolding freshOf
+forgetful-fails d =
+    let n : _≡_ {A = ℕ} 0x41 5 = d powerOn power-good 0x80 5 hi (omega arith) (omega arith) (omega arith) awaiting .last 0 refl in
     omega arith

@@ -1,37 +1,39 @@
--- Ours keeps the promise of the wire; a reader that refuses everything and a writer that writes nothing do not.
+-- Ours keeps the promise of the wire; readers and writers that do it wrong do not.
 use Prim.Native.Nat.{ℕ, _≤_, _<_}
 use mathlib.Core.Bool.{Bool, true}
-use mathlib.Core.List.{List}
-use mathlib.Core.Path.{_≡_, ap, _∙_}
+use mathlib.Core.List.{List, [], _∷_}
+use mathlib.Core.Path.{_≡_, refl, sym, ap, _∙_}
 use native.Mathlib.Omega.{arith}
 use lib.ListN.{length, take, drop, replicate, length-drop}
 use lib.Seq.{drop-append-le, take-append-le}
-use Rattle.basis.specs.Rows.{firstOf}
+use Rattle.basis.specs.Rows.{Row, firstOf}
 use Rattle.basis.specs.Bytes.{laid}
 use Rattle.basis.proofs.Laid.{take-laid, drop-laid}
 use Rattle.basis.proofs.Tests.{tests}
-use Rattle.packet.specs.Wire.{fifthOf, packetOf, totalOf, partOf, packetAt, replyOf}
+use Rattle.packet.specs.Wire.{fifthOf, packetOf, queryOf, resetOf, totalOf, partOf, packetAt, transmissionOf, replyOf}
 use Rattle.reader.specs.Read.{readOf}
 use Rattle.reply.specs.Reply.{isLast, heardOf, replyRows}
-use Rattle.packet.specs.Write.{packetRows, answerOf, bufferOf}
-use Rattle.packet.specs.declared.write.Written.the-variants.{Wrote}
-use Rattle.reader.proofs.ReadBack.{body-reads}
+use Rattle.packet.specs.Write.{shortBy, packetRows, transmissionRows, answerOf, bufferOf}
+use Rattle.packet.specs.declared.write.Written.the-variants.{Wrote, Refused as NoWrite}
+use Rattle.reader.specs.declared.read.Reading.the-variants.{Query, Reset, Refused}
+use Rattle.packet.proofs.Fields.{right-parts}
+use Rattle.reader.proofs.ReadBack.{query-reads, reset-reads, packet-reads, body-reads}
 use Rattle.packet.proofs.Parts.{part-length}
 use Rattle.packet.proofs.Stands.{at-length, part-stands}
-use Rattle.reader.proofs.Unique.{same-fields}
-use Rattle.reader.proofs.Refusals.{refused-lowest, no-packet}
+use Rattle.reader.proofs.Unique.{normal-only, same-fields, query-only, reset-only}
+use Rattle.reader.proofs.Refusals.{refused-lowest, lowest-refused, no-packet}
 use Rattle.reply.proofs.Replies.{reply-reads, same-reply}
 use Rattle.promises.specs.Bench.{hi}
-use Rattle.promises.specs.Wire.{ReadsBack, HearsBack, WireHolds, ours, refusing, idle}
+use Rattle.promises.specs.Wire.{ReadsBack, HearsBack, Lays, Reads, WireHolds, leftBy, ours, refusing, eagerly, eager, noisy, idle, scribbling}
 
 module _ (mid id : ℕ) (body : List ℕ) (position : ℕ) (out : List ℕ) (normal : id ≤ 0x3F) (some : 1 ≤ length body) (most : length body ≤ 84)
     (below : position < totalOf body)
-    (room : 21 ≤ length out) where
+    (room : length (packetAt mid id body position) ≤ length out) where
   -- nothing refuses the packet
   none : firstOf (packetRows mid id body position out) ≡ 0
   none =
       let full : length body ≡ 0 → ⊥ = omega arith in
-      let enough : length (packetAt mid id body position) ≤ length out = omega (arith, at-length mid id body position) in
+      let enough = room in
       let few : length body < 85 = omega arith in
       let low : id < 0x40 = omega arith in
       search (tests, full, enough, few, low)
@@ -79,32 +81,82 @@ module _ (mid last : ℕ) (busy sink : Bool) (out : List ℕ) (known : isLast la
         apart = λ m. ap (readOf m) front ∙ no-packet m mid last busy sink;
       }
 
+pub ours-reads : Reads ours
+ours-reads =
+    record {
+      queried = query-reads;
+      query-only = query-only;
+      cleared = reset-reads;
+      reset-only = reset-only;
+      normal = λ mid id total position part e.
+          let r = right-parts id total position (length part) e in
+          packet-reads mid id total position part (r .normal) (r .least) (r .most) (r .below) (r .some) (r .few) (r .full);
+      normal-only = normal-only;
+      lowest = refused-lowest;
+      refused = lowest-refused;
+    }
+
+-- a writer of ours, by its rows
+lays : (rows : List Row) (bytes out : List ℕ) → Lays rows bytes out (leftBy rows bytes out)
+lays rows bytes out = record { answered = refl; left = refl }
+
 pub ours-holds : WireHolds ours
 ours-holds =
     record {
+      reads = ours-reads;
       back = ours-back;
       same = same-fields;
-      lowest = refused-lowest;
       heard = ours-hears;
       same-heard = same-reply;
+      writes = λ mid id body position out. lays (packetRows mid id body position out) (packetAt mid id body position) out;
+      transmits = λ mid id body out. lays (transmissionRows mid id body out) (transmissionOf mid id body) out;
+      queries = λ mid out. lays (shortBy (queryOf mid) out ∷ []) (queryOf mid) out;
+      resets = λ mid out. lays (shortBy (resetOf mid) out ∷ []) (resetOf mid) out;
+      replies = λ mid last busy sink out. lays (replyRows mid last busy sink out) (replyOf mid last busy sink) out;
     }
 
--- 21 bytes of room
-room21 : List ℕ
-room21 = replicate 21 0
+-- 20 bytes of room, enough for a packet of five data bytes
+room20 : List ℕ
+room20 = replicate 20 0
+
+hi-fits : length (packetAt 0x80 5 hi 0) ≤ length room20
+unfolding room20
+hi-fits = omega (arith, at-length 0x80 5 hi 0)
 
 pub refusing-fails : WireHolds refusing → ⊥
-unfolding room21
 refusing-fails w =
-    let r = w .back 0x80 5 hi 0 room21 (omega arith) (omega arith) (omega arith) (omega arith) (omega arith) in
-    let e = r .fields in
+    let e = w .reads .queried 0x80 in
+    let z : _≡_ {A = ℕ} 0 1 = cc in
+    omega arith
+
+pub eager-fails : WireHolds eager → ⊥
+eager-fails w =
+    let e : Reset ≡ Query = sym (ap (eagerly (queryOf 0x80)) (query-reads 0x80)) ∙ w .reads .queried 0x80 in
+    let z : _≡_ {A = ℕ} 0 1 = cc in
+    omega arith
+
+nothing-read : readOf 0x80 [] ≡ Refused 1
+unfolding readOf
+nothing-read = refl
+
+pub noisy-fails : WireHolds noisy → ⊥
+noisy-fails w =
+    let e : Reset ≡ Refused 1 = w .reads .refused 0x80 [] 1 (refused-lowest 0x80 [] 1 nothing-read) in
     let z : _≡_ {A = ℕ} 0 1 = cc in
     omega arith
 
 pub idle-fails : WireHolds idle → ⊥
-unfolding room21 packetOf
+unfolding packetOf
 idle-fails w =
-    let r = w .back 0x80 5 hi 0 room21 (omega arith) (omega arith) (omega arith) (omega arith) (omega arith) in
+    let r = w .back 0x80 5 hi 0 room20 (omega arith) (omega arith) (omega arith) (omega arith) hi-fits in
     let e : Wrote 0 ≡ Wrote (length (packetAt 0x80 5 hi 0)) = r .count in
     let n : 0 ≡ length (packetAt 0x80 5 hi 0) = cc in
     omega (arith, at-length 0x80 5 hi 0)
+
+pub scribbling-fails : WireHolds scribbling → ⊥
+unfolding room20
+scribbling-fails w =
+    let r = w .back 0x80 5 hi 0 room20 (omega arith) (omega arith) (omega arith) (omega arith) hi-fits in
+    let e : NoWrite 34 ≡ Wrote (length (packetAt 0x80 5 hi 0)) = r .count in
+    let z : _≡_ {A = ℕ} 0 1 = cc in
+    omega arith

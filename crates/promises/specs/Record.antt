@@ -9,26 +9,26 @@ use mathlib.Core.Path.{_≡_}
 use lib.ListN.{length, getD, take, drop, replicate}
 use Rattle.packet.specs.Wire.{totalOf, transmissionOf}
 use Rattle.reader.specs.Read.{readOf}
-use Rattle.reader.specs.declared.read.Reading.the-variants.{Reset as ResetRead}
+use Rattle.reader.specs.declared.read.Reading.the-variants.{Reset as ResetRead, Normal}
 use Rattle.judge.specs.Verdict.{judgeOf}
 use Rattle.grammar.specs.Grammar.{acceptedAs}
 use Rattle.judge.specs.declared.Verdict.the-variants.{Refused as NoProgram}
 use Rattle.room.specs.Room.{roomOf}
 use Rattle.collect.specs.Slots.{slotsIn, noneOf}
-use Rattle.machine.specs.Step.{startedOf}
-use Rattle.machine.specs.declared.Answer.the-variants.{Refused as Stopped}
+use Rattle.machine.specs.Step.{startedOf, stepOf as runStep}
+use Rattle.machine.specs.declared.Answer.the-variants.{Idle, Refused as Stopped}
 use Rattle.service.specs.Delivery.{Awaits}
 use Rattle.service.specs.Driver.{movesOf}
 use Rattle.sign.specs.Join.{staysOf}
 use Rattle.sign.specs.Receive.{receiveOf}
 use Rattle.sign.specs.Reset.{powerOn, resetOf, clearedOf}
-use Rattle.sign.specs.Step.{stepOf}
+use Rattle.sign.specs.Step.{steppedOf, stepOf}
 use Rattle.sign.specs.declared.Sign.{Sign}
 use Rattle.sign.specs.declared.Received.{Received}
 use Rattle.sign.specs.declared.Stepped.{Stepped}
 use Rattle.sign.specs.declared.Cleared.{Cleared}
-use Rattle.hear.specs.declared.Outcome.the-variants.{Reset, Stored, Released, Refused}
-use Rattle.service.proofs.Keeps.{Good}
+use Rattle.hear.specs.declared.Outcome.the-variants.{Reset, Repeat, Stored, Released, Refused}
+use Rattle.service.specs.Good.{Good}
 
 -- what an implementation is: its first record, and what it does with one
 pub record Calls : Type 0 where
@@ -82,6 +82,18 @@ Delivers c =
 abbrev pub LetsRun : Calls → Type 0
 LetsRun c = (s : Sign) (mid : ℕ) (b : List ℕ) → (s .run .len ≡ 0 → ⊥) → (readOf mid b ≡ ResetRead → ⊥) → c .receive s mid b .sign ≡ s
 
+-- what each call answers that the others say nothing of: a copy of what was just completed, a new number to a Busy sign, a step, power-on
+-- and reset
+pub record Answers (c : Calls) : Type 0 where
+  pub repeats : (s : Sign) → Good s → (mid : ℕ) (b : List ℕ) (total position len : ℕ) → readOf mid b ≡ Normal (s .last) total position len
+      → c .receive s mid b ≡ staysOf s Repeat
+  pub waits : (s : Sign) → Good s → (s .run .len ≡ 0 → ⊥) → (mid : ℕ) (b : List ℕ) (id total position len : ℕ) → (id ≡ s .last → ⊥)
+      → readOf mid b ≡ Normal id total position len
+      → c .receive s mid b ≡ staysOf s (Refused 12)
+  pub steps : (s : Sign) → Good s → c .step s ≡ steppedOf s (runStep (s .room) (s .run))
+  pub powers : c .power ≡ powerOn
+  pub clears : (s : Sign) → Good s → c .reset s ≡ record { sign = resetOf s; outcome = Reset }
+
 -- ours
 abbrev pub ours : Calls
 ours = record { power = powerOn; receive = receiveOf; step = stepOf; reset = clearedOf }
@@ -100,3 +112,21 @@ startingOver = record { power = powerOn; receive = λ s mid b. staysOf (resetOf 
 -- a sign that moves on where it answers no: every refused packet is a reset
 abbrev pub shaken : Calls
 shaken = record { power = powerOn; receive = λ s mid b. staysOf (resetOf s) (Refused 1); step = stepOf; reset = clearedOf }
+
+-- a sign whose step and reset change nothing, and say Idle and Reset
+abbrev pub frozen : Calls
+frozen =
+    record { power = powerOn; receive = receiveOf; step = λ s. record { sign = s; answer = Idle }; reset = λ s. record { sign = s; outcome = Reset } }
+
+-- a sign that never notes a completed number
+abbrev pub forgets : Sign → Received → Received
+forgets s r =
+    record {
+      sign = record { last = s .last; slots = r .sign .slots; room = r .sign .room; run = r .sign .run };
+      outcome = r .outcome;
+      body = r .body;
+      len = r .len;
+    }
+
+abbrev pub forgetful : Calls
+forgetful = record { power = powerOn; receive = λ s mid b. forgets s (receiveOf s mid b); step = stepOf; reset = clearedOf }

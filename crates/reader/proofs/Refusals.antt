@@ -1,7 +1,7 @@
 -- The refusal is the lowest that applies: a number is given exactly if one applies, it applies itself, and
 -- none below it does; so no reply is taken for a packet.
 use Prim.Native.Nat.{ℕ, zero, suc, _/_, _%_, _-_, _≤_, _<_}
-use mathlib.Core.Path.{_≡_, refl}
+use mathlib.Core.Path.{_≡_, refl, ap, _∙_}
 use mathlib.Core.List.{List}
 use mathlib.Core.Bool.{Bool, true, false}
 use native.Mathlib.Omega.{arith}
@@ -11,7 +11,7 @@ use Rattle.basis.specs.Choice.{when}
 use Rattle.basis.specs.Rows.{firstOf, applies}
 use Rattle.basis.proofs.Rows.{given-applies, lowest-given}
 use Rattle.packet.specs.Wire.{replyOf}
-use Rattle.reader.specs.Read.{readOf, rowsOf, refusedOr, named}
+use Rattle.reader.specs.Read.{readOf, rowsOf, refusedOr, named, Lowest}
 use Rattle.reader.specs.declared.read.Reading.{Reading}
 use Rattle.reader.specs.declared.read.Reading.the-variants.{Query, Reset, Normal, Refused}
 use Rattle.reader.proofs.Unique.{table-rises}
@@ -26,10 +26,6 @@ named-not false false id total position len k e = let z : _≡_ {A = ℕ} 0 1 = 
 refused-by : (n : ℕ) (a : Reading) (k : ℕ) → refusedOr n a ≡ Refused k → (a ≡ Refused k → ⊥) → (n ≡ k) × (0 < k)
 refused-by zero a k e other = absurd (other e)
 refused-by (suc n) a k e other = let q : suc n ≡ k = cc in (q, omega arith)
-
-pub record Lowest (mid : ℕ) (b : List ℕ) (k : ℕ) : Type 0 where
-  pub holds : applies k (rowsOf mid b) ≡ true
-  pub lowest : (j : ℕ) → applies j (rowsOf mid b) ≡ true → k ≤ j
 
 -- the number for no applies, and no lower one does
 pub refused-lowest : (mid : ℕ) (b : List ℕ) (k : ℕ) → readOf mid b ≡ Refused k → Lowest mid b k
@@ -55,6 +51,14 @@ refused-where mid b j a =
     go : (n : ℕ) → 0 < n → (r : Reading) → refusedOr n r ≡ Refused n
     go zero h r = absurd (omega arith)
     go (suc n) h r = refl
+
+-- by the lowest that applies
+pub lowest-refused : (mid : ℕ) (b : List ℕ) (k : ℕ) → Lowest mid b k → readOf mid b ≡ Refused k
+lowest-refused mid b k l =
+    let e = refused-where mid b k (l .holds) in
+    let f = refused-lowest mid b (firstOf (rowsOf mid b)) e in
+    let same : firstOf (rowsOf mid b) ≡ k = omega (arith, f .lowest k (l .holds), l .lowest (firstOf (rowsOf mid b)) (f .holds)) in
+    e ∙ ap Refused same
 
 -- number 11 applies to every reply, whoever reads it: both letters say that more packets follow
 eleven : (m mid last : ℕ) (busy sink : Bool) → applies 11 (rowsOf m (replyOf mid last busy sink)) ≡ true

@@ -1,12 +1,13 @@
 -- Reading a packet: the table of numbers 1 to 11 in 01, and the fields of what none of them refuses.
-use Prim.Native.Nat.{ℕ, zero, suc, _+_, _-_, _/_, _%_}
+use Prim.Native.Nat.{ℕ, zero, suc, _+_, _-_, _/_, _%_, _≤_}
 use mathlib.Core.List.{List, [], _∷_}
-use mathlib.Core.Bool.{Bool, not}
+use mathlib.Core.Bool.{Bool, true, not}
+use mathlib.Core.Path.{_≡_}
 use lib.ListN.{length, getD}
 use lib.Dec.{eqb, ltb, leb}
 use Rattle.basis.specs.Bytes.{sum}
 use Rattle.basis.specs.Choice.{when, _and_, _or_}
-use Rattle.basis.specs.Rows.{Row, _if_, firstOf}
+use Rattle.basis.specs.Rows.{Row, _if_, firstOf, applies}
 use Rattle.reader.specs.declared.read.Reading.{Reading}
 use Rattle.reader.specs.declared.read.Reading.the-variants.{Query, Reset, Normal, Refused}
 
@@ -56,6 +57,11 @@ fieldsOf id fifth len = refusedOr (firstOf (fieldRows id fifth len)) (named id f
 -- the lowest number that applies, or the packet's kind and fields
 unfoldable pub readOf : ℕ → List ℕ → Reading
 readOf mid b = refusedOr (firstOf (rowsOf mid b)) (named (getD b 3 0) (getD b 4 0) (length b))
+
+-- a number that applies to these bytes, and no lower one does
+pub record Lowest (mid : ℕ) (b : List ℕ) (k : ℕ) : Type 0 where
+  pub holds : applies k (rowsOf mid b) ≡ true
+  pub lowest : (j : ℕ) → applies j (rowsOf mid b) ≡ true → k ≤ j
 
 -- an answer in 01's words: the number for no (0 for yes), the ID, N, position and count of data bytes
 pub record Told : Type 0 where

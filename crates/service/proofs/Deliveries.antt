@@ -36,7 +36,8 @@ use Rattle.sign.specs.declared.Received.{Received}
 use Rattle.hear.specs.declared.Outcome.the-variants.{Stored}
 use Rattle.hear.proofs.Places.{stored-slots, whole-body}
 use Rattle.sign.proofs.Joining.{sound-receives}
-use Rattle.service.proofs.Keeps.{Good, receive-good}
+use Rattle.service.specs.Good.{Good}
+use Rattle.service.proofs.Keeps.{receive-good}
 
 -- the collection after the first packets of a body
 abbrev upTo : ℕ → List ℕ → ℕ → Collection

@@ -52,17 +52,8 @@ use Rattle.sign.proofs.Sounds.{Parts, sound-parts, parts-sound, ready-collects,
 use Rattle.sign.proofs.Stepping.{sound-steps}
 use Rattle.hear.proofs.Packets.{normal-read}
 use Rattle.hear.proofs.Places.{begun-open, stored-slots}
+use Rattle.service.specs.Good.{Roomy, Good}
 use Rattle.sign.proofs.Joining.{goes-open, sound-receives}
-
--- lengths and room have their sizes, as the arrays of the code do
-pub record Roomy (s : Sign) : Type 0 where
-  pub lens : length (s .slots .lens) ≡ 6
-  pub room : length (s .room) ≡ 84
-
--- sound, with rooms of their sizes
-pub record Good (s : Sign) : Type 0 where
-  pub sound : soundOf s ≡ true
-  pub roomy : Roomy s
 
 fresh-good : (dim bright : ℕ) → settingsSound (startSettings dim bright) ≡ true → Good (freshOf dim bright)
 unfolding freshOf readyOf begunOf

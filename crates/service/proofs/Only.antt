@@ -20,7 +20,8 @@ use Rattle.machine.proofs.Sounds.{sound-parts as run-parts}
 use Rattle.sign.specs.declared.Sign.{Sign}
 use Rattle.sign.specs.Sound.{collectedOf}
 use Rattle.sign.proofs.Sounds.{sound-parts, ready-collected, busy-nothing, body-fits}
-use Rattle.service.proofs.Keeps.{Good, nothing-none}
+use Rattle.service.specs.Good.{Good}
+use Rattle.service.proofs.Keeps.{nothing-none}
 
 -- the running body has the length that the record says
 body-size : (s : Sign) → Good s → length (bodyOf (s .room) (s .run)) ≡ s .run .len

@@ -32,7 +32,8 @@ use Rattle.sign.specs.Step.{roomAfter, stepOf}
 use Rattle.sign.specs.declared.Sign.{Sign}
 use Rattle.sign.specs.declared.Stepped.{Stepped}
 use Rattle.service.proofs.Driver.{driver-after, driver-said}
-use Rattle.service.proofs.Keeps.{Good, step-good}
+use Rattle.service.specs.Good.{Good}
+use Rattle.service.proofs.Keeps.{step-good}
 use Rattle.sign.proofs.Sounds.{sound-parts}
 use Rattle.sign.proofs.Stepping.{sound-steps}
 

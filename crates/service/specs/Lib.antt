@@ -1,3 +1,4 @@
 pub mod Delivery
 pub mod Driver
+pub mod Good
 pub mod Punctual

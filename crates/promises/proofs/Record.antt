@@ -3,32 +3,28 @@
 use Prim.Native.Nat.{ℕ, zero, suc, _*_, _≤_, _<_}
 use mathlib.Core.List.{List, []}
 use mathlib.Core.Path.{_≡_, refl, sym, ap, _∙_}
-use mathlib.Core.Bool.{not}
 use native.Mathlib.Omega.{arith}
-use lib.Dec.{eqb}
 use lib.ListN.{length, getD, take, drop}
 use lib.Seq.{getD-take}
-use borrow.Author.Tests.{eq-eqb, ne-eqb}
-use Rattle.basis.proofs.Choices.{when-true, when-false}
+use Rattle.basis.proofs.Choices.{when-true}
 use Rattle.packet.specs.Wire.{fifthOf, totalOf, partOf, packetAt, transmissionOf}
 use Rattle.packet.proofs.Stands.{at-length, packet-stands, count-stands}
 use Rattle.reader.specs.Read.{readOf}
-use Rattle.reader.specs.declared.read.Reading.the-variants.{Reset as ResetRead, Normal, Refused as Unread}
+use Rattle.reader.specs.declared.read.Reading.the-variants.{Reset as ResetRead, Refused as Unread}
 use Rattle.collect.specs.Slots.{begunOf}
 use Rattle.machine.specs.Step.{readyOf, startedOf}
 use Rattle.service.specs.Delivery.{Awaits, Delivered, afterPackets, answerTo}
 use Rattle.hear.specs.Join.{bodyIn}
-use Rattle.sign.specs.Join.{signOf, staysOf, joinOf}
-use Rattle.sign.specs.Receive.{heardOf, receiveOf}
+use Rattle.sign.specs.Join.{signOf, staysOf}
+use Rattle.sign.specs.Receive.{receiveOf}
 use Rattle.sign.specs.Sound.{soundOf}
 use Rattle.sign.specs.Reset.{freshOf, resetOf, powerOn, clearedOf, startSettings}
 use Rattle.sign.specs.declared.Sign.{Sign}
 use Rattle.sign.specs.declared.Received.{Received}
 use Rattle.sign.specs.declared.Cleared.{Cleared}
-use Rattle.sign.proofs.Joining.{sound-receives}
 use Rattle.sign.proofs.Stepping.{sound-steps}
-use Rattle.hear.specs.declared.Outcome.the-variants.{Repeat, Refused}
 use Rattle.service.specs.Good.{Good}
+use Rattle.service.proofs.Copies.{copy-repeats, busy-waits}
 use Rattle.service.proofs.Keeps.{power-good, receive-good, step-good, cleared-good}
 use Rattle.service.proofs.Driver.{receive-still, step-still, reset-still, busy-stays}
 use Rattle.service.proofs.Deliveries.{delivers}
@@ -90,23 +86,15 @@ pub ours-lets-run : LetsRun ours
 ours-lets-run = busy-stays
 
 pub ours-answers : Answers ours
-unfolding joinOf clearedOf
+unfolding clearedOf
 ours-answers =
     record {
-      repeats = λ s good mid b total position len e.
-          heard s good mid b (s .last) total position len e ∙ when-true (eqb (s .last) (s .last)) (staysOf s Repeat) _ (eq-eqb (s .last) (s .last) refl);
-      waits = λ s good busy mid b id total position len other e.
-          heard s good mid b id total position len e
-          ∙ when-false (eqb id (s .last)) (staysOf s Repeat) _ (ne-eqb id (s .last) other)
-          ∙ when-true (not (eqb (s .run .len) 0)) (staysOf s (Refused 12)) _ (ap not (ne-eqb (s .run .len) 0 busy));
+      repeats = λ s good mid b total position len e. copy-repeats s good mid b (s .last) total position len e refl;
+      waits = λ s good busy mid b id total position len other e. busy-waits s good mid b id total position len e busy other;
       steps = λ s good. sound-steps s (good .sound);
       powers = refl;
       clears = λ s good. when-true (soundOf s) _ _ (good .sound);
     }
-  where
-    heard : (s : Sign) → Good s → (mid : ℕ) (b : List ℕ) (id total position len : ℕ) → readOf mid b ≡ Normal id total position len
-        → receiveOf s mid b ≡ joinOf s id total position (take len (drop 5 b))
-    heard s good mid b id total position len e = sound-receives s mid b (good .sound) ∙ ap (heardOf s b) e
 
 -- a new sign awaits any number of a message
 awaiting : Awaits powerOn 5

@@ -1,4 +1,6 @@
+pub mod Copies
 pub mod Deliveries
+pub mod Dispatch
 pub mod Driver
 pub mod Keeps
 pub mod Only

@@ -1,4 +1,5 @@
 pub mod Delivery
+pub mod Dispatch
 pub mod Driver
 pub mod Good
 pub mod Punctual

@@ -10,13 +10,14 @@ use borrow.Author.Tests.{eq-eqb, ne-eqb, lt-ltb, le-ltb}
 use Rattle.basis.specs.Bytes.{laid}
 use Rattle.basis.specs.Choice.{when}
 use Rattle.basis.specs.Rows.{Row, firstOf}
+use Rattle.basis.specs.Told.{Told}
 use Rattle.basis.proofs.Choices.{when-true, when-false}
 use Rattle.packet.specs.Write.{Writes, answerOf, bufferOf}
 use Rattle.packet.specs.declared.write.Written.{Written}
-use Rattle.machine.specs.Step.{numberOf as stepNumber}
+use Rattle.machine.specs.Step.{toldOf as stepTold}
 use Rattle.machine.specs.declared.Answer.{Answer}
 use Rattle.machine.specs.declared.Answer.the-variants.{Did, Idle, Refused as NoStep}
-use Rattle.hear.specs.Hear.{numberOf}
+use Rattle.hear.specs.Hear.{toldOf as outcomeTold}
 use Rattle.hear.specs.declared.Outcome.{Outcome}
 use Rattle.hear.specs.declared.Outcome.the-variants.{Query, Reset, Repeat, Stored, Released, Refused}
 use Rattle.sign.specs.Sound.{soundOf}
@@ -34,7 +35,7 @@ use Rattle.sign.proofs.Stepping.{unsound-steps}
 use Rattle.image.specs.Layout.{recordOf}
 use Rattle.words.specs.Words.{wordsOf, wroteOf}
 use Rattle.words.specs.Told.{answerRow, firstOr, toldIn}
-use Rattle.words.specs.Says.{receivedBytes, stepWords}
+use Rattle.words.specs.Says.{receivedBytes}
 use Rattle.cabi.specs.Calls.{Tells, guarded, keptOf, tellRows}
 
 -- a writer's outcomes, as its result
@@ -55,14 +56,14 @@ sign-tells bytes image out {after} {s} {w} size e h er =
     }
 
 -- what is told of x is told of y, where x is y
-abbrev pub Told : {X : Type 0} → (number : X → ℕ) → (words : X → List ℕ) → (size : ℕ) → (answer : List ℕ) → (r : ℕ) → (after : List ℕ) → X → Type 0
-Told number words size answer r after x =
-    (r ≡ firstOr (answerRow size answer ∷ []) (number x)) × (after ≡ toldIn size (wordsOf (words x)) answer)
+abbrev pub Says : {X : Type 0} → (told : X → Told) → (result : Told → ℕ) → (size : ℕ) → (answer : List ℕ) → (r : ℕ) → (after : List ℕ) → X → Type 0
+Says told result size answer r after x =
+    (r ≡ firstOr (answerRow size answer ∷ []) (result (told x))) × (after ≡ toldIn size (wordsOf (told x .values)) answer)
 
-pub told-of : {X : Type 0} (number : X → ℕ) (words : X → List ℕ) (size : ℕ) (answer : List ℕ) {r : ℕ} {after : List ℕ} (x y : X) → x ≡ y
-    → Told number words size answer r after x
-    → Told number words size answer r after y
-told-of number words size answer {r} {after} x y = subst (Told number words size answer r after)
+pub told-of : {X : Type 0} (told : X → Told) (result : Told → ℕ) (size : ℕ) (answer : List ℕ) {r : ℕ} {after : List ℕ} (x y : X) → x ≡ y
+    → Says told result size answer r after x
+    → Says told result size answer r after y
+told-of told result size answer {r} {after} x y = subst (Says told result size answer r after)
 
 -- what a call leaves of a lent list, by its number
 pub kept-no : (n : ℕ) (as-was next : List ℕ) → (n ≡ 0 → ⊥) → as-was ≡ keptOf n as-was next
@@ -165,22 +166,22 @@ module _ (image : List ℕ) (n : ℕ) (next : List ℕ) (fits : length image ≡
   went-on image′ z e = let none = sym (guard-is image [] n fits ill refl) ∙ z in (sym none, e ∙ kept-yes _ image next none)
 
 -- an unsound record is 16 to each call
-pub ill-receives : (image : List ℕ) (mid : ℕ) (b : List ℕ) → soundOf (recordOf image) ≡ false → numberOf (receiveOf (recordOf image) mid b .outcome) ≡ 16
+pub ill-receives : (image : List ℕ) (mid : ℕ) (b : List ℕ) → soundOf (recordOf image) ≡ false → outcomeTold (receiveOf (recordOf image) mid b .outcome) .number ≡ 16
 unfolding staysOf
-ill-receives image mid b e = ap (λ (x : Received). numberOf (x .outcome)) (unsound-receives (recordOf image) mid b e)
+ill-receives image mid b e = ap (λ (x : Received). outcomeTold (x .outcome) .number) (unsound-receives (recordOf image) mid b e)
 
-pub ill-steps : (image : List ℕ) → soundOf (recordOf image) ≡ false → stepNumber (stepOf (recordOf image) .answer) ≡ 16
-ill-steps image e = ap (λ (x : Stepped). stepNumber (x .answer)) (unsound-steps (recordOf image) e)
+pub ill-steps : (image : List ℕ) → soundOf (recordOf image) ≡ false → stepTold (stepOf (recordOf image) .answer) .number ≡ 16
+ill-steps image e = ap (λ (x : Stepped). stepTold (x .answer) .number) (unsound-steps (recordOf image) e)
 
-pub ill-resets : (image : List ℕ) → soundOf (recordOf image) ≡ false → numberOf (clearedOf (recordOf image) .outcome) ≡ 16
+pub ill-resets : (image : List ℕ) → soundOf (recordOf image) ≡ false → outcomeTold (clearedOf (recordOf image) .outcome) .number ≡ 16
 unfolding clearedOf
-ill-resets image e = ap (λ (t : Bool). numberOf (choice t .outcome)) e
+ill-resets image e = ap (λ (t : Bool). outcomeTold (choice t .outcome) .number) e
   where
     choice : Bool → Cleared
     choice t = when t (record { sign = resetOf (recordOf image); outcome = Reset }) (record { sign = recordOf image; outcome = Refused 16 })
 
 -- a refusal tells nothing
-pub quiet-receive : (o : Outcome) (body : List ℕ) (len : ℕ) → (numberOf o ≡ 0 → ⊥) → receivedBytes o body len ≡ []
+pub quiet-receive : (o : Outcome) (body : List ℕ) (len : ℕ) → (outcomeTold o .number ≡ 0 → ⊥) → receivedBytes o body len ≡ []
 quiet-receive Query body len h = absurd (h refl)
 quiet-receive Reset body len h = absurd (h refl)
 quiet-receive Repeat body len h = absurd (h refl)
@@ -188,7 +189,7 @@ quiet-receive Stored body len h = absurd (h refl)
 quiet-receive (Released v) body len h = absurd (h refl)
 quiet-receive (Refused n) body len h = refl
 
-pub quiet-step : (x : Answer) → (stepNumber x ≡ 0 → ⊥) → wordsOf (stepWords x) ≡ []
+pub quiet-step : (x : Answer) → (stepTold x .number ≡ 0 → ⊥) → wordsOf (stepTold x .values) ≡ []
 unfolding wordsOf
 quiet-step (Did x) h = absurd (h refl)
 quiet-step Idle h = absurd (h refl)

@@ -1,4 +1,4 @@
--- What each call answers, makes of the image, and writes into the lent answer. What an answer is told as stands in `words`.
+-- What each call answers, makes of the image, and writes into the lent answer. An answer's numbers are `toldOf` of its own crate, and how they are laid stands in `words`.
 use Prim.Native.Nat.{ℕ}
 use mathlib.Core.Bool.{not}
 use mathlib.Core.List.{List, [], _∷_}
@@ -9,11 +9,11 @@ use Rattle.basis.specs.Bytes.{laid}
 use Rattle.basis.specs.Choice.{when}
 use Rattle.basis.specs.Rows.{Row, _if_, firstOf}
 use Rattle.packet.specs.Write.{shortBy, answerOf, bufferOf}
-use Rattle.reader.specs.Read.{readOf, toldOf}
-use Rattle.reply.specs.Reply.{heardOf, numberOf as heardNo}
-use Rattle.reckon.specs.Forecast.{forecastOf}
-use Rattle.hear.specs.Hear.{numberOf}
-use Rattle.machine.specs.Step.{numberOf as stepNumber}
+use Rattle.reader.specs.Read.{readOf, toldOf as readTold}
+use Rattle.reply.specs.Reply.{heardOf, toldOf as heardTold}
+use Rattle.reckon.specs.Forecast.{forecastOf, toldOf as foretoldTold}
+use Rattle.hear.specs.Hear.{toldOf as outcomeTold}
+use Rattle.machine.specs.Step.{toldOf as stepTold}
 use Rattle.sign.specs.Sound.{soundOf}
 use Rattle.sign.specs.Reset.{powerOn, clearedOf}
 use Rattle.sign.specs.Receive.{receiveOf}
@@ -21,8 +21,8 @@ use Rattle.sign.specs.Step.{stepOf}
 use Rattle.sign.specs.declared.Sign.{Sign}
 use Rattle.image.specs.Layout.{imageOf, recordOf}
 use Rattle.words.specs.Words.{wordsOf, wroteOf}
-use Rattle.words.specs.Told.{answerRow, firstOr, toldIn, readWords, heardWords, foretoldWords, foretoldResult}
-use Rattle.words.specs.Says.{receivedBytes, stepWords}
+use Rattle.words.specs.Told.{answerRow, firstOr, toldIn, foretoldResult}
+use Rattle.words.specs.Says.{receivedBytes}
 
 -- both outcomes of a call that writes these bytes into a lent buffer, or is refused by these rows
 pub record Tells (rows : List Row) (bytes out : List ℕ) (result : ℕ) (after : List ℕ) : Type 0 where
@@ -31,23 +31,23 @@ pub record Tells (rows : List Row) (bytes out : List ℕ) (result : ℕ) (after 
 
 -- reading a packet, and reading a reply
 abbrev pub readAnswer : ℕ → (bytes answer : List ℕ) → List ℕ
-readAnswer mid bytes answer = toldIn 20 (wordsOf (readWords (readOf mid bytes))) answer
+readAnswer mid bytes answer = toldIn 20 (wordsOf (readTold (readOf mid bytes) .values)) answer
 
 abbrev pub readNo : ℕ → (bytes answer : List ℕ) → ℕ
-readNo mid bytes answer = firstOr (answerRow 20 answer ∷ []) (toldOf (readOf mid bytes) .number)
+readNo mid bytes answer = firstOr (answerRow 20 answer ∷ []) (readTold (readOf mid bytes) .number)
 
 abbrev pub replyAnswer : ℕ → (bytes answer : List ℕ) → List ℕ
-replyAnswer mid bytes answer = toldIn 12 (wordsOf (heardWords (heardOf mid bytes))) answer
+replyAnswer mid bytes answer = toldIn 12 (wordsOf (heardTold (heardOf mid bytes) .values)) answer
 
 abbrev pub replyNo : ℕ → (bytes answer : List ℕ) → ℕ
-replyNo mid bytes answer = firstOr (answerRow 12 answer ∷ []) (heardNo (heardOf mid bytes))
+replyNo mid bytes answer = firstOr (answerRow 12 answer ∷ []) (heardTold (heardOf mid bytes) .number)
 
 -- forecasting a body
 abbrev pub forecastResult : (body : List ℕ) → (pace each : ℕ) → (answer : List ℕ) → ℕ
 forecastResult body pace each answer = firstOr (answerRow 16 answer ∷ []) (foretoldResult (forecastOf body pace each))
 
 abbrev pub forecastAnswer : (body : List ℕ) → (pace each : ℕ) → (answer : List ℕ) → List ℕ
-forecastAnswer body pace each answer = toldIn 16 (wordsOf (foretoldWords (forecastOf body pace each))) answer
+forecastAnswer body pace each answer = toldIn 16 (wordsOf (foretoldTold (forecastOf body pace each) .values)) answer
 
 -- 251: an image of another size
 abbrev pub imageRow : List ℕ → Row
@@ -63,7 +63,7 @@ keptOf number as-was next = when (eqb number 0) next as-was
 
 -- a receive
 abbrev pub receiveNo : (image : List ℕ) → ℕ → (bytes answer : List ℕ) → ℕ
-receiveNo image mid bytes answer = firstOr (guarded image (answerRow 100 answer ∷ [])) (numberOf (receiveOf (recordOf image) mid bytes .outcome))
+receiveNo image mid bytes answer = firstOr (guarded image (answerRow 100 answer ∷ [])) (outcomeTold (receiveOf (recordOf image) mid bytes .outcome) .number)
 
 -- the image after it: that of the next record
 abbrev pub receiveImage : (image : List ℕ) → ℕ → (bytes answer : List ℕ) → List ℕ
@@ -81,7 +81,7 @@ powerImage image = keptOf (firstOf (imageRow image ∷ [])) image (imageOf power
 
 -- a reset
 abbrev pub resetNo : List ℕ → ℕ
-resetNo image = firstOr (guarded image []) (numberOf (clearedOf (recordOf image) .outcome))
+resetNo image = firstOr (guarded image []) (outcomeTold (clearedOf (recordOf image) .outcome) .number)
 
 -- the image after it
 abbrev pub resetImage : List ℕ → List ℕ
@@ -89,7 +89,7 @@ resetImage image = keptOf (resetNo image) image (imageOf (clearedOf (recordOf im
 
 -- a step
 abbrev pub stepNo : (image answer : List ℕ) → ℕ
-stepNo image answer = firstOr (guarded image (answerRow 28 answer ∷ [])) (stepNumber (stepOf (recordOf image) .answer))
+stepNo image answer = firstOr (guarded image (answerRow 28 answer ∷ [])) (stepTold (stepOf (recordOf image) .answer) .number)
 
 -- the image after it
 abbrev pub stepImage : (image answer : List ℕ) → List ℕ
@@ -97,7 +97,7 @@ stepImage image answer = keptOf (stepNo image answer) image (imageOf (stepOf (re
 
 -- and what is told of it
 abbrev pub stepAnswer : (image answer : List ℕ) → List ℕ
-stepAnswer image answer = keptOf (stepNo image answer) answer (laid (wordsOf (stepWords (stepOf (recordOf image) .answer))) answer)
+stepAnswer image answer = keptOf (stepNo image answer) answer (laid (wordsOf (stepTold (stepOf (recordOf image) .answer) .values)) answer)
 
 -- the reply to a query, and a copy of the running body: the guard, then 34
 abbrev pub tellRows : (bytes : Sign → List ℕ) → (image out : List ℕ) → List Row

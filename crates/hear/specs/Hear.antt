@@ -1,8 +1,10 @@
 -- Bytes off the line, judged in 01's order: 16, the reader's numbers 1 to 11, query, reset, then the joining of a normal packet.
 use Prim.Native.Nat.{ℕ}
-use mathlib.Core.List.{List}
+use mathlib.Core.List.{List, [], _∷_}
 use lib.ListN.{take, drop}
 use Rattle.basis.specs.Choice.{when}
+use Rattle.basis.specs.Told.{Told, yes, no}
+use Rattle.judge.specs.Verdict.{toldOf as verdictTold}
 use Rattle.reader.specs.Read.{readOf}
 use Rattle.reader.specs.declared.read.Reading.{Reading}
 use Rattle.reader.specs.declared.read.Reading.the-variants.{Query as QueryRead, Reset as ResetRead, Normal, Refused as Unread}
@@ -26,11 +28,11 @@ heardOf last c len b read = readBy (stayOf last c) resetLeft (joinBy (stayOf las
 unfoldable pub hearOf : ℕ → Collection → ℕ → ℕ → List ℕ → Left
 hearOf last c len mid b = when (framedBy last c len) (heardOf last c len b (readOf mid b)) (stayOf last c (Refused 16))
 
--- an outcome in 01's words: the number for no, 0 for yes
-abbrev pub numberOf : Outcome → ℕ
-numberOf Query = 0
-numberOf Reset = 0
-numberOf Repeat = 0
-numberOf Stored = 0
-numberOf (Released v) = 0
-numberOf (Refused n) = n
+-- the outcome in 01's numbers: which of the five it is, and for Released the refusal of its program, 0 where it is accepted, and its place
+abbrev pub toldOf : Outcome → Told
+toldOf Query = yes (1 ∷ 0 ∷ 0 ∷ [])
+toldOf Reset = yes (2 ∷ 0 ∷ 0 ∷ [])
+toldOf Repeat = yes (3 ∷ 0 ∷ 0 ∷ [])
+toldOf Stored = yes (4 ∷ 0 ∷ 0 ∷ [])
+toldOf (Released v) = yes (5 ∷ verdictTold v .number ∷ verdictTold v .place ∷ [])
+toldOf (Refused n) = no n

@@ -71,14 +71,3 @@ placedOf (Inside behind number) r = withRead (Inside behind number) r
 -- the place q of the body b with the command that stands there
 abbrev pub foundOf : List ℕ → ℕ → Found
 foundOf b q = placedOf (standOf b q) (readOf b q)
-
--- a standing in the record's words: the loop place and the loop's number, both 0 outside
-abbrev pub loopPlaceOf : Standing → ℕ
-loopPlaceOf Nowhere = 0
-loopPlaceOf Outside = 0
-loopPlaceOf (Inside behind number) = behind
-
-abbrev pub loopNumberOf : Standing → ℕ
-loopNumberOf Nowhere = 0
-loopNumberOf Outside = 0
-loopNumberOf (Inside behind number) = number

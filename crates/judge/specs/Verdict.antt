@@ -7,6 +7,7 @@ use mathlib.Core.Bool.{Bool, true, false}
 use lib.Dec.{eqb, ltb}
 use lib.ListN.{length, getD}
 use Rattle.basis.specs.Choice.{when, _and_}
+use Rattle.basis.specs.Told.{Told, yes, noAt}
 use Rattle.params.specs.Bytes.{caret}
 use Rattle.loops.specs.Token.{Tok, tokensOf}
 use Rattle.loops.specs.Structure.{Move, stop, go, moveOf}
@@ -45,13 +46,8 @@ judgeOf b =
     when (ltb 84 (length b)) (Refused 28 84)
     (when (eqb (getD b 0 0) caret) (commandsOf b) (Refused 21 0))
 
--- a verdict in 01's words: the number for no, 0 where the body is accepted, and its place
-abbrev pub noOf : Verdict → ℕ
-noOf Finite = 0
-noOf Endless = 0
-noOf (Refused n p) = n
-
-abbrev pub noAt : Verdict → ℕ
-noAt Finite = 0
-noAt Endless = 0
-noAt (Refused n p) = p
+-- the verdict in 01's numbers: 1 for an endless program, 0 for one that ends; or the number for no and its place
+abbrev pub toldOf : Verdict → Told
+toldOf Finite = yes (0 ∷ [])
+toldOf Endless = yes (1 ∷ [])
+toldOf (Refused n p) = noAt n p

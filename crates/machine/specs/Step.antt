@@ -5,7 +5,10 @@ use Prim.Native.Nat.{ℕ, zero, suc}
 use mathlib.Core.List.{List, [], _∷_}
 use lib.Dec.{eqb}
 use Rattle.basis.specs.Choice.{when}
+use Rattle.basis.specs.Told.{Told, yes, no}
+use Rattle.program.specs.Answers.{kindOf}
 use Rattle.perform.specs.declared.settings.Settings.{Settings}
+use Rattle.perform.specs.declared.price.Performed.{Performed}
 use Rattle.loops.specs.Token.{get}
 use Rattle.course.specs.Steps.{Frame, frame, State, ready, at, Said, did, idle, nextOf, saidOf}
 use Rattle.machine.specs.Sound.{bodyOf, soundOf}
@@ -75,8 +78,11 @@ saidRun (suc k) room r = stepOf room r .answer ∷ saidRun k room (stepOf room r
 unfoldable pub startedOf : ℕ → Settings → Run
 startedOf len σ = record { len = len; place = 0; inner = outside; settings = σ }
 
--- a step's answer in 01's words: the number for no, 0 for yes
-abbrev pub numberOf : Answer → ℕ
-numberOf (Did x) = 0
-numberOf Idle = 0
-numberOf (Refused n) = n
+-- the answer in 01's numbers: kind, number as written, text place and length, start column, scans, milliseconds; Idle is zeros
+abbrev pub valuesOf : Performed → List ℕ
+valuesOf x = kindOf (x .kind) ∷ x .number ∷ x .text ∷ x .len ∷ x .column ∷ x .scans .0 ∷ x .millis .0 ∷ []
+
+abbrev pub toldOf : Answer → Told
+toldOf (Did x) = yes (valuesOf x)
+toldOf Idle = yes (0 ∷ 0 ∷ 0 ∷ 0 ∷ 0 ∷ 0 ∷ 0 ∷ [])
+toldOf (Refused n) = no n

@@ -8,6 +8,7 @@ use lib.Dec.{eqb, ltb, leb}
 use Rattle.basis.specs.Bytes.{laid}
 use Rattle.basis.specs.Choice.{when, _and_, _or_, within}
 use Rattle.basis.specs.Rows.{Row, _if_, firstOf}
+use Rattle.basis.specs.Told.{Told, yes, no}
 use Rattle.packet.specs.Wire.{fifthOf, packetOf, totalOf, packetAt, transmissionOf}
 use Rattle.packet.specs.declared.write.Written.{Written}
 use Rattle.packet.specs.declared.write.Written.the-variants.{Wrote, Refused}
@@ -64,11 +65,7 @@ pub record Writes (rows : List Row) (bytes out : List ℕ) (answer : Written) (a
   pub answered : answer ≡ answerOf (firstOf rows) bytes
   pub left : after ≡ bufferOf (firstOf rows) bytes out
 
--- an answer in 01's words: the number for no (0 for yes) and the count of bytes written
-abbrev pub numberOf : Written → ℕ
-numberOf (Wrote n) = 0
-numberOf (Refused n) = n
-
-abbrev pub countOf : Written → ℕ
-countOf (Wrote n) = n
-countOf (Refused n) = 0
+-- the answer in 01's numbers: the count of bytes written
+abbrev pub toldOf : Written → Told
+toldOf (Wrote n) = yes (n ∷ [])
+toldOf (Refused n) = no n

@@ -1,10 +1,8 @@
--- What an answer says in 01's words: the letters of a kind, and the number for no and its place; 0 is no refusal.
+-- A command's kind in 01's letters, and by number.
 use Prim.Native.Nat.{ℕ}
 use mathlib.Core.List.{List, [], _∷_}
 use Rattle.program.specs.declared.Kind.{Kind}
 use Rattle.program.specs.declared.Kind.the-variants.{II, IA, IB, S, L, E, F, R, XS, XF, P, Scans, W, XD, XB, Y}
-use Rattle.program.specs.declared.Reading.{Reading}
-use Rattle.program.specs.declared.Reading.the-variants.{Good, Refused}
 
 -- the letters of a command, in ASCII
 abbrev pub lettersOf : Kind → List ℕ
@@ -25,11 +23,21 @@ lettersOf XD = 0x58 ∷ 0x44 ∷ []
 lettersOf XB = 0x58 ∷ 0x42 ∷ []
 lettersOf Y = 0x59 ∷ []
 
--- the number for no of a reading, and its place
-abbrev pub noOf : Reading → ℕ
-noOf (Good c) = 0
-noOf (Refused n q) = n
-
-abbrev pub noAt : Reading → ℕ
-noAt (Good c) = 0
-noAt (Refused n q) = q
+-- a command by number, in the order of 01's table
+abbrev pub kindOf : Kind → ℕ
+kindOf II = 1
+kindOf IA = 2
+kindOf IB = 3
+kindOf S = 4
+kindOf L = 5
+kindOf E = 6
+kindOf F = 7
+kindOf R = 8
+kindOf XS = 9
+kindOf XF = 10
+kindOf P = 11
+kindOf Scans = 12
+kindOf W = 13
+kindOf XD = 14
+kindOf XB = 15
+kindOf Y = 16

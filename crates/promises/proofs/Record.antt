@@ -1,157 +1,131 @@
--- Ours keeps the promises of the record; a joiner of one fixed body, a sign that starts over, one that a refusal shakes, one that is frozen and
--- one that forgets do not.
-use Prim.Native.Nat.{ℕ, zero, suc, _*_, _≤_, _<_}
-use mathlib.Core.List.{List, []}
+-- Ours obeys the rules of the record.
+use Prim.Native.Nat.{ℕ, _+_, _≤_, _<_}
+use mathlib.Core.Bool.{Bool, true, false, not}
+use mathlib.Core.List.{List, [], _∷_}
 use mathlib.Core.Path.{_≡_, refl, sym, ap, _∙_}
 use native.Mathlib.Omega.{arith}
-use lib.ListN.{length, getD, take, drop}
-use lib.Seq.{getD-take}
+use lib.Dec.{eqb, leb}
+use lib.ListN.{length, take, drop}
+use borrow.Author.Tests.{eq-eqb, ne-eqb}
+use Rattle.basis.specs.Choice.{when, _and_}
+use Rattle.basis.specs.Rows.{firstOf}
 use Rattle.basis.proofs.Choices.{when-true}
-use Rattle.packet.specs.Wire.{fifthOf, totalOf, partOf, packetAt, transmissionOf}
-use Rattle.packet.proofs.Stands.{at-length, packet-stands, count-stands}
+use Rattle.basis.proofs.Tests.{tests}
+use Rattle.packet.specs.Write.{shortBy, answerOf, bufferOf, toldOf as writtenTold}
 use Rattle.reader.specs.Read.{readOf}
-use Rattle.reader.specs.declared.read.Reading.the-variants.{Reset as ResetRead, Refused as Unread}
-use Rattle.collect.specs.Slots.{begunOf}
-use Rattle.machine.specs.Step.{readyOf, startedOf}
-use Rattle.service.specs.Delivery.{Awaits, Delivered, afterPackets, answerTo}
-use Rattle.hear.specs.Join.{bodyIn}
-use Rattle.sign.specs.Join.{signOf, staysOf}
-use Rattle.sign.specs.Receive.{receiveOf}
+use Rattle.reader.specs.declared.read.Reading.the-variants.{Normal}
+use Rattle.machine.specs.declared.Answer.the-variants.{Idle}
+use Rattle.machine.proofs.Keeps.{step-ready}
+use Rattle.hear.specs.declared.Outcome.{Outcome}
+use Rattle.hear.specs.declared.Outcome.the-variants.{Reset}
+use Rattle.sign.specs.Join.{staysOf}
+use Rattle.sign.specs.Reset.{clearedOf}
 use Rattle.sign.specs.Sound.{soundOf}
-use Rattle.sign.specs.Reset.{freshOf, resetOf, powerOn, clearedOf, startSettings}
+use Rattle.sign.specs.Step.{steppedOf, stepOf}
+use Rattle.sign.specs.Tell.{saysOf, runningBody, toldRows}
 use Rattle.sign.specs.declared.Sign.{Sign}
 use Rattle.sign.specs.declared.Received.{Received}
+use Rattle.sign.specs.declared.Stepped.{Stepped}
 use Rattle.sign.specs.declared.Cleared.{Cleared}
-use Rattle.sign.proofs.Stepping.{sound-steps}
+use Rattle.sign.proofs.Sounds.{sound-parts}
+use Rattle.sign.proofs.Stepping.{sound-steps, same-run}
+use Rattle.repeater.specs.Repeat.{withinOf, repeatOf}
 use Rattle.service.specs.Good.{Good}
 use Rattle.service.proofs.Copies.{copy-repeats, busy-waits}
-use Rattle.service.proofs.Keeps.{power-good, receive-good, step-good, cleared-good}
-use Rattle.service.proofs.Driver.{receive-still, step-still, reset-still, busy-stays}
-use Rattle.service.proofs.Deliveries.{delivers}
-use Rattle.promises.specs.Bench.{hi}
-use Rattle.promises.specs.Record.{NoTrip, Gets, Delivers, LetsRun, Answers, cutOf, behind, told, ours, fixed, startingOver, shaken, frozen, forgetful}
+use Rattle.service.proofs.Joins.{unread, queried, cleared, begins, other-total, goes-in, again, differs}
+use Rattle.promises.specs.Unit.{Calls, leftBy, ours, heardIn, steppedIn, clearedIn}
+use Rattle.promises.specs.Wire.{Lays}
+use Rattle.promises.specs.Record.{Heeds, Hears, Joins, Steps, Clears, Obeys, stays}
 
-pub ours-never-trips : NoTrip ours
-ours-never-trips =
-    record {
-      begins = power-good;
-      received = receive-good;
-      stepped = step-good;
-      cleared = cleared-good;
-      receive-stays = receive-still;
-      step-stays = step-still;
-      reset-stays = reset-still;
-    }
-
--- the packets of a transmission, cut by their counts, are the body's
-pub cut-is : (mid id : ℕ) (body : List ℕ) (p : ℕ) → p < totalOf body → cutOf (transmissionOf mid id body) p ≡ packetAt mid id body p
-cut-is mid id body p below =
-    let t = drop (21 * p) (transmissionOf mid id body) in
-    let n = length (packetAt mid id body p) in
-    let stands = packet-stands mid id body p below in
-    let count : getD t 2 0 ≡ n =
-    sym (getD-take n t 2 0 (omega (arith, at-length mid id body p)))
-    ∙ ap (λ (s : List ℕ). getD s 2 0) stands
-    ∙ count-stands mid id (fifthOf (totalOf body) p) (partOf body p) in
-    ap (λ (k : ℕ). take k t) count ∙ stands
-
-behind-is : (s : Sign) (mid id : ℕ) (body : List ℕ) (n : ℕ) → n ≤ totalOf body → behind ours s mid id body n ≡ afterPackets s mid id body n
-behind-is s mid id body zero h = refl
-behind-is s mid id body (suc n) h =
-    ap (λ (t : Sign). receiveOf t mid (cutOf (transmissionOf mid id body) n) .sign) (behind-is s mid id body n (omega arith))
-    ∙ ap (λ (b : List ℕ). receiveOf (afterPackets s mid id body n) mid b .sign) (cut-is mid id body n h)
-
-pub ours-delivers : Delivers ours
+-- a record of ours that stays, told an outcome
+still : (s : Sign) (o : Outcome) (x : Received) → x ≡ staysOf s o → heardIn x ≡ stays s (heardIn (staysOf s o) .told)
 unfolding staysOf
-ours-delivers s good mid id body known some most waits =
-    let d : Delivered s mid id body = delivers s good mid id body known some most waits in
+still s o x e = ap heardIn e
+
+heeds : (x y : Received) → x ≡ y → Heeds ours (heardIn x) y
+heeds x y e =
     record {
-      stored = λ p more. ap (λ (r : Received). r .outcome) (at p (omega arith)) ∙ ap (λ (r : Received). r .outcome) (d .stored p more);
-      released = λ p e. ap (λ (r : Received). r .outcome) (at p (omega arith)) ∙ d .released p e;
-      same = λ p e. ap (λ (r : Received). take (r .len) (r .body)) (at p (omega arith)) ∙ d .same p e;
-      last = λ p e. ap (λ (r : Received). r .sign .last) (at p (omega arith)) ∙ d .last p e;
-      none = λ p e. ap (λ (r : Received). r .sign .slots) (at p (omega arith)) ∙ d .none p e;
-      holds = λ p e endless q. ap (λ (r : Received). r .sign .room) (at p (omega arith)) ∙ d .holds p e endless q;
-      runs = λ p e endless q. ap (λ (r : Received). r .sign .run) (at p (omega arith)) ∙ d .runs p e endless q;
-      empty = λ p e n place q. ap (λ (r : Received). r .sign .room) (at p (omega arith)) ∙ d .empty p e n place q;
-      rests = λ p e n place q. ap (λ (r : Received). r .sign .run) (at p (omega arith)) ∙ d .rests p e n place q;
+      told = ap (λ (z : Received). heardIn z .told) e;
+      next = ap (λ (z : Received). z .sign) e;
+      body = ap (λ (z : Received). heardIn z .body) e;
     }
-  where
-    at : (p : ℕ) → p < totalOf body → told ours s mid id body p ≡ answerTo s mid id body p
-    at p below =
-        ap (λ (t : Sign). receiveOf t mid (cutOf (transmissionOf mid id body) p)) (behind-is s mid id body p (omega arith))
-        ∙ ap (λ (b : List ℕ). receiveOf (afterPackets s mid id body p) mid b) (cut-is mid id body p below)
 
-pub ours-lets-run : LetsRun ours
-ours-lets-run = busy-stays
+pub ours-hears : (s : Sign) → Good s → Hears ours s
+unfolding staysOf
+ours-hears s good =
+    record {
+      unread = λ mid b n e. still s _ _ (unread s good mid b n e);
+      queried = λ mid b e. still s _ _ (queried s good mid b e);
+      cleared = λ mid b e. heeds _ _ (cleared s good mid b e);
+    }
 
-pub ours-answers : Answers ours
+pub ours-joins : (s : Sign) → Good s → (mid : ℕ) (b : List ℕ) (id total position len : ℕ) → readOf mid b ≡ Normal id total position len
+    → Joins ours s mid b id total position (take len (drop 5 b))
+unfolding staysOf
+ours-joins s good mid b id total position len e =
+    record {
+      repeats = λ same. still s _ _ (copy-repeats s good mid b id total position len e same);
+      waits = λ other busy. still s _ _ (busy-waits s good mid b id total position len e busy other);
+      begins = λ other ready new. heeds _ _ (begins s good mid b id total position len e ready other new);
+      other-total = λ other ready old apart. still s _ _ (other-total s good mid b id total position len e ready other old apart);
+      goes-in = λ other ready old one free. heeds _ _ (goes-in s good mid b id total position len e ready other old one free);
+      again = λ other ready old one held same. still s _ _ (again s good mid b id total position len e ready other old one held same);
+      differs = λ other ready old one held apart. still s _ _ (differs s good mid b id total position len e ready other old one held apart);
+    }
+
+pub ours-steps : (s : Sign) → Good s → Steps ours s
+ours-steps s good =
+    let e = sound-steps s (good .sound) in
+    record {
+      told = ap (λ (x : Stepped). steppedIn x .told) e;
+      next = ap (λ (x : Stepped). x .sign) e;
+      rests = λ ready.
+          ap steppedIn (e ∙ ap (steppedOf s) (step-ready (s .room) (s .run) (sound-parts s (good .sound) .run) ready))
+          ∙ ap (λ (t : Sign). record { told = steppedIn (record { sign = t; answer = Idle }) .told; next = t }) (same-run s);
+    }
+
+pub ours-clears : (s : Sign) → Good s → Clears ours s
 unfolding clearedOf
-ours-answers =
-    record {
-      repeats = λ s good mid b total position len e. copy-repeats s good mid b (s .last) total position len e refl;
-      waits = λ s good busy mid b id total position len other e. busy-waits s good mid b id total position len e busy other;
-      steps = λ s good. sound-steps s (good .sound);
-      powers = refl;
-      clears = λ s good. when-true (soundOf s) _ _ (good .sound);
-    }
+ours-clears s good =
+    let e = when-true (soundOf s) _ _ (good .sound) in
+    record { told = ap (λ (x : Cleared). clearedIn x .told) e; next = ap (λ (x : Cleared). x .sign) e }
 
--- a new sign awaits any number of a message
-awaiting : Awaits powerOn 5
-unfolding freshOf readyOf begunOf
-awaiting = record { ready = refl; other = λ e. omega arith; begins = refl }
+-- a sound record tells these bytes, or 34
+tells : (s : Sign) → Good s → (bytes out : List ℕ) → Lays (shortBy bytes out ∷ []) bytes out (leftBy (toldRows s bytes out) bytes out)
+tells s good bytes out =
+    let rest = firstOf (shortBy bytes out ∷ []) in
+    let e : firstOf (toldRows s bytes out) ≡ rest = ap (λ (t : Bool). when (not t) 16 rest) (good .sound) in
+    record { told = ap (λ (k : ℕ). writtenTold (answerOf k bytes)) e; buffer = ap (λ (k : ℕ). bufferOf k bytes out) e }
 
-pub fixed-fails : Delivers fixed → ⊥
-fixed-fails d =
-    let g : Gets fixed powerOn 0x80 5 hi = d powerOn power-good 0x80 5 hi (omega arith) (omega arith) (omega arith) awaiting in
-    let n : _≡_ {A = ℕ} 1 5 = ap length (g .same 0 refl) in
-    omega arith
+-- the repeater
+ours-stretch : (body : List ℕ) (place len : ℕ) (standing : List ℕ) → (place ≡ 0 → ⊥) → place + len ≤ length body
+    → repeatOf body place len standing ≡ take len (drop place body)
+unfolding repeatOf
+ours-stretch body place len standing some fits = search (tests, some, fits)
 
-nothing-read : readOf 0x80 [] ≡ Unread 1
-unfolding readOf
-nothing-read = refl
+ours-standing : (body : List ℕ) (len : ℕ) (standing : List ℕ) → repeatOf body 0 len standing ≡ standing
+unfolding repeatOf
+ours-standing body len standing = refl
 
--- a sign that shows a line
-showing : Sign
-showing = signOf 5 (bodyIn hi) (startedOf (length hi) (startSettings 16 0))
-
-pub starting-over-fails : LetsRun startingOver → ⊥
-unfolding showing freshOf readyOf startedOf staysOf
-starting-over-fails l =
-    let n : _≡_ {A = ℕ} 0 5 = ap (λ (s : Sign). s .run .len) (l showing 0x80 [] (λ e. omega arith) unread) in
-    omega arith
+ours-outside : (body : List ℕ) (place len : ℕ) (standing : List ℕ) → length body < place + len → repeatOf body place len standing ≡ standing
+unfolding repeatOf
+ours-outside body place len standing far = go (eqb place 0)
   where
-    unread : readOf 0x80 [] ≡ ResetRead → ⊥
-    unread e =
-        let f = nothing-read in
-        let z : _≡_ {A = ℕ} 0 1 = cc in
-        omega arith
+    go : (t : Bool) → when (not t and leb (place + len) (length body)) (take len (drop place body)) standing ≡ standing
+    go true = refl
+    go false = search (tests, far)
 
-pub shaken-fails : NoTrip shaken → ⊥
-unfolding showing freshOf readyOf startedOf staysOf
-shaken-fails t =
-    let n : _≡_ {A = ℕ} 0 5 = ap (λ (s : Sign). s .run .len) (t .receive-stays showing 0x80 [] refl) in
-    omega arith
-
--- a sign that got a line
-abbrev got : Sign
-got = told ours powerOn 0x80 5 hi 0 .sign
-
-got-good : Good got
-got-good = receive-good powerOn 0x80 (cutOf (transmissionOf 0x80 5 hi) 0) power-good
-
-got-last : got .last ≡ 5
-got-last = ours-delivers powerOn power-good 0x80 5 hi (omega arith) (omega arith) (omega arith) awaiting .last 0 refl
-
-pub frozen-fails : Answers frozen → ⊥
-unfolding freshOf
-frozen-fails a =
-    let e : got ≡ resetOf got = ap (λ (x : Cleared). x .sign) (a .clears got got-good) in
-    let n : got .last ≡ 0x41 = ap (λ (s : Sign). s .last) e in
-    omega (arith, got-last)
-
-pub forgetful-fails : Delivers forgetful → ⊥
-unfolding freshOf
-forgetful-fails d =
-    let n : _≡_ {A = ℕ} 0x41 5 = d powerOn power-good 0x80 5 hi (omega arith) (omega arith) (omega arith) awaiting .last 0 refl in
-    omega arith
+pub ours-obeys : Obeys ours
+ours-obeys =
+    record {
+      powers = refl;
+      hears = ours-hears;
+      joins = ours-joins;
+      steps = ours-steps;
+      clears = ours-clears;
+      replies = λ s good mid sink out. tells s good (saysOf s mid sink) out;
+      copies = λ s good out. tells s good (runningBody s) out;
+      stretch = ours-stretch;
+      standing = ours-standing;
+      outside = ours-outside;
+    }

@@ -1,30 +1,34 @@
--- Ours keeps the promise of the wire; readers and writers that do it wrong do not.
+-- Ours keeps the promise of the wire.
 use Prim.Native.Nat.{ℕ, _≤_, _<_}
-use mathlib.Core.Bool.{Bool, true}
+use mathlib.Core.Bool.{Bool, true, false}
 use mathlib.Core.List.{List, [], _∷_}
 use mathlib.Core.Path.{_≡_, refl, sym, ap, _∙_}
 use native.Mathlib.Omega.{arith}
-use lib.ListN.{length, take, drop, replicate, length-drop}
+use lib.Dec.{eqb}
+use lib.ListN.{length, getD, take, drop, length-drop}
 use lib.Seq.{drop-append-le, take-append-le}
+use Rattle.basis.specs.Bytes.{Bytes, laid}
+use Rattle.basis.specs.Choice.{when, _and_}
 use Rattle.basis.specs.Rows.{Row, firstOf}
-use Rattle.basis.specs.Bytes.{laid}
+use Rattle.basis.specs.Told.{no}
 use Rattle.basis.proofs.Laid.{take-laid, drop-laid}
 use Rattle.basis.proofs.Tests.{tests}
-use Rattle.packet.specs.Wire.{fifthOf, packetOf, queryOf, resetOf, totalOf, partOf, packetAt, transmissionOf, replyOf}
-use Rattle.reader.specs.Read.{readOf}
-use Rattle.reply.specs.Reply.{isLast, heardOf, replyRows}
-use Rattle.packet.specs.Write.{shortBy, packetRows, transmissionRows, answerOf, bufferOf}
-use Rattle.packet.specs.declared.write.Written.the-variants.{Wrote, Refused as NoWrite}
-use Rattle.reader.specs.declared.read.Reading.the-variants.{Query, Reset, Refused}
+use Rattle.packet.specs.Wire.{fifthOf, queryOf, resetOf, totalOf, partOf, packetAt, transmissionOf, replyOf}
+use Rattle.packet.specs.Write.{shortBy, packetRows, transmissionRows, answerOf, bufferOf, toldOf as writtenTold}
 use Rattle.packet.proofs.Fields.{right-parts}
-use Rattle.reader.proofs.ReadBack.{query-reads, reset-reads, packet-reads, body-reads}
 use Rattle.packet.proofs.Parts.{part-length}
 use Rattle.packet.proofs.Stands.{at-length, part-stands}
+use Rattle.reader.specs.Read.{readOf, toldOf as readTold}
+use Rattle.reader.proofs.ReadBack.{query-reads, reset-reads, packet-reads, body-reads}
 use Rattle.reader.proofs.Unique.{normal-only, same-fields, query-only, reset-only}
 use Rattle.reader.proofs.Refusals.{refused-lowest, lowest-refused, no-packet}
-use Rattle.reply.proofs.Replies.{reply-reads, same-reply}
-use Rattle.promises.specs.Bench.{hi}
-use Rattle.promises.specs.Wire.{ReadsBack, HearsBack, Lays, Reads, WireHolds, leftBy, ours, refusing, eagerly, eager, noisy, idle, scribbling}
+use Rattle.reply.specs.Reply.{isLast, isReply, isTold, heardOf, replyRows, toldOf as statusTold}
+use Rattle.reply.specs.declared.Status.{Status}
+use Rattle.reply.specs.declared.Status.the-variants.{Heard, Refused as Unheard}
+use Rattle.reply.proofs.Replies.{reply-reads, reply-only, same-reply}
+use Rattle.promises.specs.Unit.{leftBy, ours}
+use Rattle.promises.specs.Wire.{ReadsBack, HearsBack, Lays, Reads, Hears, Writes, WireHolds}
+use Rattle.promises.proofs.Tellings.{query-told, reset-told, normal-told, refused-told, heard-told}
 
 module _ (mid id : ℕ) (body : List ℕ) (position : ℕ) (out : List ℕ) (normal : id ≤ 0x3F) (some : 1 ≤ length body) (most : length body ≤ 84)
     (below : position < totalOf body)
@@ -50,8 +54,11 @@ module _ (mid id : ℕ) (body : List ℕ) (position : ℕ) (out : List ℕ) (nor
       let fits : length part ≤ length (drop 5 p) = omega (arith, part-length body position, length-drop 5 p) in
       let laying : ours .write mid id body position out .buffer ≡ laid p out = ap (λ (k : ℕ). bufferOf k p out) none in
       record {
-        count = ap (λ (k : ℕ). answerOf k p) none;
-        fields = ap (λ (x : List ℕ). readOf mid (take n x)) laying ∙ ap (readOf mid) (take-laid p out) ∙ body-reads mid id body position normal some most below;
+        count = ap (λ (k : ℕ). writtenTold (answerOf k p)) none;
+        fields =
+            ap (λ (x : List ℕ). readTold (readOf mid (take n x))) laying
+            ∙ ap (λ (x : List ℕ). readTold (readOf mid x)) (take-laid p out)
+            ∙ ap readTold (body-reads mid id body position normal some most below);
         carried =
             ap (λ (x : List ℕ). take (length part) (drop 5 x)) laying
             ∙ ap (take (length part)) (drop-append-le 5 p behind long)
@@ -68,95 +75,98 @@ module _ (mid last : ℕ) (busy sink : Bool) (out : List ℕ) (known : isLast la
       let enough : length (replyOf mid last busy sink) ≤ length out = omega arith in
       search (tests, enough, known)
 
-  pub ours-hears : HearsBack ours mid last busy sink out
+  pub ours-hears-back : HearsBack ours mid last busy sink out
   unfolding replyOf
-  ours-hears =
+  ours-hears-back =
       let p = replyOf mid last busy sink in
-      let laying : ours .reply mid last busy sink out .buffer ≡ laid p out = ap (λ (k : ℕ). bufferOf k p out) free in
-      let front : take 8 (ours .reply mid last busy sink out .buffer) ≡ p = ap (take 8) laying ∙ take-laid p out in
+      let laying : ours .answer mid last busy sink out .buffer ≡ laid p out = ap (λ (k : ℕ). bufferOf k p out) free in
+      let front : take 8 (ours .answer mid last busy sink out .buffer) ≡ p = ap (take 8) laying ∙ take-laid p out in
       record {
-        count = ap (λ (k : ℕ). answerOf k p) free;
-        told = ap (heardOf mid) front ∙ reply-reads mid last busy sink known;
+        count = ap (λ (k : ℕ). writtenTold (answerOf k p)) free;
+        told = ap (λ (x : List ℕ). statusTold (heardOf mid x)) front ∙ ap statusTold (reply-reads mid last busy sink known);
         behind = ap (drop 8) laying ∙ drop-laid p out;
-        apart = λ m. ap (readOf m) front ∙ no-packet m mid last busy sink;
+        apart = λ m. ap (λ (x : List ℕ). readTold (readOf m x)) front ∙ ap readTold (no-packet m mid last busy sink);
       }
 
 pub ours-reads : Reads ours
 ours-reads =
     record {
-      queried = query-reads;
-      query-only = query-only;
-      cleared = reset-reads;
-      reset-only = reset-only;
+      queried = λ mid. ap readTold (query-reads mid);
+      query-only = λ mid b bytes e. query-only mid b bytes (query-told (readOf mid b) e);
+      cleared = λ mid. ap readTold (reset-reads mid);
+      reset-only = λ mid b bytes e. reset-only mid b bytes (reset-told (readOf mid b) e);
       normal = λ mid id total position part e.
           let r = right-parts id total position (length part) e in
-          packet-reads mid id total position part (r .normal) (r .least) (r .most) (r .below) (r .some) (r .few) (r .full);
-      normal-only = normal-only;
-      lowest = refused-lowest;
-      refused = lowest-refused;
+          ap readTold (packet-reads mid id total position part (r .normal) (r .least) (r .most) (r .below) (r .some) (r .few) (r .full));
+      normal-only = λ mid b id total position len bytes e. normal-only mid b id total position len bytes (normal-told (readOf mid b) id total position len e);
+      lowest = λ mid b k e. refused-lowest mid b k (refused-told (readOf mid b) k e);
+      refused = λ mid b k l. ap readTold (lowest-refused mid b k l);
     }
 
+-- what was heard has a last ID that a sign may have, and what was not is 35
+told-last : (t v w : Bool) (l last : ℕ) (b c busy sink : Bool) → isLast l ≡ v
+    → when t (when (v and w) (Heard l b c) (Unheard 35)) (Unheard 35) ≡ Heard last busy sink
+    → isLast last ≡ true
+told-last true true true l last b c busy sink h e = let z : l ≡ last = cc in ap isLast (sym z) ∙ h
+told-last true true false l last b c busy sink h e = let z : _≡_ {A = ℕ} 0 1 = cc in absurd (omega arith)
+told-last true false w l last b c busy sink h e = let z : _≡_ {A = ℕ} 0 1 = cc in absurd (omega arith)
+told-last false v w l last b c busy sink h e = let z : _≡_ {A = ℕ} 0 1 = cc in absurd (omega arith)
+
+pub heard-last : (mid : ℕ) (b : List ℕ) (last : ℕ) (busy sink : Bool) → heardOf mid b ≡ Heard last busy sink → isLast last ≡ true
+unfolding heardOf
+heard-last mid b last busy sink e =
+    told-last (isReply mid b) (isLast (getD b 3 0)) _ (getD b 3 0) last (eqb (getD b 4 0) 0x42) (eqb (getD b 5 0) 0x53) busy sink refl e
+
+told-35 : (t u : Bool) (l n : ℕ) (b c : Bool) → when t (when u (Heard l b c) (Unheard 35)) (Unheard 35) ≡ Unheard n → 35 ≡ n
+told-35 true true l n b c e = let z : _≡_ {A = ℕ} 0 1 = cc in absurd (omega arith)
+told-35 true false l n b c e = cc
+told-35 false u l n b c e = cc
+
+pub unheard-35 : (mid : ℕ) (b : List ℕ) (n : ℕ) → heardOf mid b ≡ Unheard n → 35 ≡ n
+unfolding heardOf
+unheard-35 mid b n e =
+    told-35 (isReply mid b) (isTold (getD b 3 0) (getD b 4 0) (getD b 5 0)) (getD b 3 0) n (eqb (getD b 4 0) 0x42) (eqb (getD b 5 0) 0x53) e
+
+pub ours-hears : Hears ours
+ours-hears =
+    record {
+      heard = λ mid last busy sink known. ap statusTold (reply-reads mid last busy sink known);
+      unheard = λ mid b bytes none. go mid b bytes none (heardOf mid b) refl;
+    }
+  where
+    go : (mid : ℕ) (b : List ℕ) → Bytes b → ((last : ℕ) (busy sink : Bool) → isLast last ≡ true → b ≡ replyOf mid last busy sink → ⊥) → (x : Status)
+        → heardOf mid b ≡ x
+        → statusTold (heardOf mid b) ≡ no 35
+    go mid b bytes none (Heard last busy sink) e =
+        absurd (none last busy sink (heard-last mid b last busy sink e) (reply-only mid b last busy sink bytes e))
+    go mid b bytes none (Unheard n) e = ap statusTold e ∙ ap no (sym (unheard-35 mid b n e))
+
 -- a writer of ours, by its rows
-lays : (rows : List Row) (bytes out : List ℕ) → Lays rows bytes out (leftBy rows bytes out)
-lays rows bytes out = record { answered = refl; left = refl }
+pub lays : (rows : List Row) (bytes out : List ℕ) → Lays rows bytes out (leftBy rows bytes out)
+lays rows bytes out = record { told = refl; buffer = refl }
+
+pub ours-writes : Writes ours
+ours-writes =
+    record {
+      queries = λ mid out. lays (shortBy (queryOf mid) out ∷ []) (queryOf mid) out;
+      resets = λ mid out. lays (shortBy (resetOf mid) out ∷ []) (resetOf mid) out;
+      writes = λ mid id body position out. lays (packetRows mid id body position out) (packetAt mid id body position) out;
+      transmits = λ mid id body out. lays (transmissionRows mid id body out) (transmissionOf mid id body) out;
+      replies = λ mid last busy sink out. lays (replyRows mid last busy sink out) (replyOf mid last busy sink) out;
+    }
 
 pub ours-holds : WireHolds ours
 ours-holds =
     record {
       reads = ours-reads;
+      hears = ours-hears;
+      writes = ours-writes;
       back = ours-back;
-      same = same-fields;
-      heard = ours-hears;
-      same-heard = same-reply;
-      writes = λ mid id body position out. lays (packetRows mid id body position out) (packetAt mid id body position) out;
-      transmits = λ mid id body out. lays (transmissionRows mid id body out) (transmissionOf mid id body) out;
-      queries = λ mid out. lays (shortBy (queryOf mid) out ∷ []) (queryOf mid) out;
-      resets = λ mid out. lays (shortBy (resetOf mid) out ∷ []) (resetOf mid) out;
-      replies = λ mid last busy sink out. lays (replyRows mid last busy sink out) (replyOf mid last busy sink) out;
+      same = λ mid b b′ id total position len bytes bytes′ e e′ f.
+          same-fields mid b b′ id total position len bytes bytes′ (normal-told (readOf mid b) id total position len e)
+          (normal-told (readOf mid b′) id total position len e′)
+          f;
+      heard = ours-hears-back;
+      same-heard = λ mid b b′ last busy sink bytes bytes′ e e′.
+          same-reply mid b b′ last busy sink bytes bytes′ (heard-told (heardOf mid b) last busy sink e) (heard-told (heardOf mid b′) last busy sink e′);
     }
-
--- 20 bytes of room, enough for a packet of five data bytes
-room20 : List ℕ
-room20 = replicate 20 0
-
-hi-fits : length (packetAt 0x80 5 hi 0) ≤ length room20
-unfolding room20
-hi-fits = omega (arith, at-length 0x80 5 hi 0)
-
-pub refusing-fails : WireHolds refusing → ⊥
-refusing-fails w =
-    let e = w .reads .queried 0x80 in
-    let z : _≡_ {A = ℕ} 0 1 = cc in
-    omega arith
-
-pub eager-fails : WireHolds eager → ⊥
-eager-fails w =
-    let e : Reset ≡ Query = sym (ap (eagerly (queryOf 0x80)) (query-reads 0x80)) ∙ w .reads .queried 0x80 in
-    let z : _≡_ {A = ℕ} 0 1 = cc in
-    omega arith
-
-nothing-read : readOf 0x80 [] ≡ Refused 1
-unfolding readOf
-nothing-read = refl
-
-pub noisy-fails : WireHolds noisy → ⊥
-noisy-fails w =
-    let e : Reset ≡ Refused 1 = w .reads .refused 0x80 [] 1 (refused-lowest 0x80 [] 1 nothing-read) in
-    let z : _≡_ {A = ℕ} 0 1 = cc in
-    omega arith
-
-pub idle-fails : WireHolds idle → ⊥
-unfolding packetOf
-idle-fails w =
-    let r = w .back 0x80 5 hi 0 room20 (omega arith) (omega arith) (omega arith) (omega arith) hi-fits in
-    let e : Wrote 0 ≡ Wrote (length (packetAt 0x80 5 hi 0)) = r .count in
-    let n : 0 ≡ length (packetAt 0x80 5 hi 0) = cc in
-    omega (arith, at-length 0x80 5 hi 0)
-
-pub scribbling-fails : WireHolds scribbling → ⊥
-unfolding room20
-scribbling-fails w =
-    let r = w .back 0x80 5 hi 0 room20 (omega arith) (omega arith) (omega arith) (omega arith) hi-fits in
-    let e : NoWrite 34 ≡ Wrote (length (packetAt 0x80 5 hi 0)) = r .count in
-    let z : _≡_ {A = ℕ} 0 1 = cc in
-    omega arith

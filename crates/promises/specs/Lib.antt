@@ -1,4 +1,10 @@
 pub mod Bench
+pub mod Delivery
+pub mod Dispatch
+pub mod Keeps
 pub mod Line
-pub mod Wire
 pub mod Record
+pub mod Safe
+pub mod Unit
+pub mod Wire
+pub mod Wrong

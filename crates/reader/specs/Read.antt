@@ -7,6 +7,7 @@ use lib.ListN.{length, getD}
 use lib.Dec.{eqb, ltb, leb}
 use Rattle.basis.specs.Bytes.{sum}
 use Rattle.basis.specs.Choice.{when, _and_, _or_}
+use Rattle.basis.specs.Told.{Told, yes, no}
 use Rattle.basis.specs.Rows.{Row, _if_, firstOf, applies}
 use Rattle.reader.specs.declared.read.Reading.{Reading}
 use Rattle.reader.specs.declared.read.Reading.the-variants.{Query, Reset, Normal, Refused}
@@ -63,16 +64,9 @@ pub record Lowest (mid : ℕ) (b : List ℕ) (k : ℕ) : Type 0 where
   pub holds : applies k (rowsOf mid b) ≡ true
   pub lowest : (j : ℕ) → applies j (rowsOf mid b) ≡ true → k ≤ j
 
--- an answer in 01's words: the number for no (0 for yes), the ID, N, position and count of data bytes
-pub record Told : Type 0 where
-  pub number : ℕ
-  pub id : ℕ
-  pub total : ℕ
-  pub position : ℕ
-  pub len : ℕ
-
+-- the answer in 01's numbers: 1 for a query, 2 for a reset, 3 for a normal packet; then its ID, N, position and count of data bytes
 abbrev pub toldOf : Reading → Told
-toldOf Query = record { number = 0; id = 0x40; total = 1; position = 0; len = 0 }
-toldOf Reset = record { number = 0; id = 0x41; total = 1; position = 0; len = 0 }
-toldOf (Normal id total position len) = record { number = 0; id = id; total = total; position = position; len = len }
-toldOf (Refused n) = record { number = n; id = 0; total = 0; position = 0; len = 0 }
+toldOf Query = yes (1 ∷ 0 ∷ 0 ∷ 0 ∷ 0 ∷ [])
+toldOf Reset = yes (2 ∷ 0 ∷ 0 ∷ 0 ∷ 0 ∷ [])
+toldOf (Normal id total position len) = yes (3 ∷ id ∷ total ∷ position ∷ len ∷ [])
+toldOf (Refused n) = no n

@@ -27,7 +27,7 @@ use Rattle.totals.specs.Totals.{noneOf, plusOf, timesOf}
 use Rattle.totals.specs.declared.Totals.{Totals}
 use Rattle.course.specs.Price.{leavesOf}
 use Rattle.course.specs.Tree.{treeIn}
-use Rattle.reckon.specs.Forecast.{pricesOf, byVerdict, toldOf}
+use Rattle.reckon.specs.Forecast.{pricesOf, byVerdict, foretoldOf}
 use Rattle.reckon.specs.Reckon.{addedOf, passOf, laterOf, entryOf, closedOf, takenOf, summedOf, Counts, Passing}
 use Rattle.reckon.specs.declared.reckon.Reckoned.{Reckoned}
 use Rattle.reckon.specs.declared.walk.Sums.{Sums}
@@ -209,7 +209,7 @@ kept-whole b whole last Ended s h e i = let z : _≡_ {A = ℕ} 0 1 = cc in absu
 -- at the end the whole is told
 pub stands-end : (b : List ℕ) (whole : Totals) (last : Settings) (p : ℕ) (f : Flow) (s : Sums) → length b ≤ p → judgeOf b ≡ commandsOf b
     → Stands b whole last p f s
-    → toldOf f (s .at .totals) ≡ byVerdict (judgeOf b) whole
+    → foretoldOf f (s .at .totals) ≡ byVerdict (judgeOf b) whole
 stands-end b whole last p f s h j i =
     let end : endOf (endedOf f) (opensOf f) ≡ judgeOf b = sym (on-end b p f h) ∙ i .1 .0 ∙ sym j in
     let past : length b ≤ s .at .place = subst (λ (y : ℕ). length b ≤ y) (i .0) h in

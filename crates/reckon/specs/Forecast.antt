@@ -2,11 +2,12 @@
 -- 01: "The forecast gives totals of steps, scans and milliseconds (32 bits suffice), or says endless"; 17: "forecast with pace or
 -- scan setting out of range, before 21 to 28".
 use Prim.Native.Nat.{ℕ, zero, suc, _+_}
-use mathlib.Core.List.{List}
+use mathlib.Core.List.{List, [], _∷_}
 use mathlib.Core.Bool.{Bool, not}
 use lib.Dec.{eqb}
 use lib.ListN.{length}
 use Rattle.basis.specs.Choice.{when, _and_, within}
+use Rattle.basis.specs.Told.{Told, yes, noAt}
 use Rattle.units.specs.Units.{capped}
 use Rattle.perform.specs.declared.settings.Settings.{Settings}
 use Rattle.perform.specs.declared.price.Performed.{Performed}
@@ -72,6 +73,12 @@ pricesOf t σ = totalsOf (capped (priceOf ones t σ)) (capped (priceOf scans t �
 abbrev pub walkedOf : List ℕ → Settings → Foretold
 walkedOf b σ = byVerdict (judgeOf b) (pricesOf (treeIn b .block) σ)
 
--- what is told where no command is left
-abbrev pub toldOf : Flow → Totals → Foretold
-toldOf f t = byVerdict (endOf (endedOf f) (opensOf f)) t
+-- what is foretold where no command is left
+abbrev pub foretoldOf : Flow → Totals → Foretold
+foretoldOf f t = byVerdict (endOf (endedOf f) (opensOf f)) t
+
+-- the forecast in 01's numbers: 1 for an endless program, 0 for one that ends, and then its steps, scans and milliseconds
+abbrev pub toldOf : Foretold → Told
+toldOf (Ends t) = yes (0 ∷ t .steps .0 ∷ t .scans .0 ∷ t .millis .0 ∷ [])
+toldOf Never = yes (1 ∷ 0 ∷ 0 ∷ 0 ∷ [])
+toldOf (RefusedForecast n p) = noAt n p

@@ -25,7 +25,7 @@ ghost use Rattle.judge.specs.Verdict.{frontOf};
 ghost use Rattle.loops.specs.declared.Flow.the-variants.{Within};
 ghost use Rattle.judge.specs.declared.Opening.the-variants.{Begun};
 ghost use Rattle.loops.specs.declared.Role.the-variants.{Close};
-ghost use Rattle.reckon.specs.Forecast.{toldOf, walkedOf};
+ghost use Rattle.reckon.specs.Forecast.{foretoldOf, walkedOf};
 ghost use Rattle.reckon.specs.Reckon.{closedOf, closesOf, takenOf, summedOf, Passed, Passing};
 
 // How far a walk has come: what is reckoned since the last `L` or the start, the settings behind that `L`, and the totals up to it.
@@ -155,7 +155,7 @@ fn summed(body: &[u8], read: Reading, flow: Flow, sums: Sums) -> Sums
 
 // What is told where no command is left.
 fn told(flow: Flow, sums: Sums) -> Foretold
-    ensures { λ r. ⌜ r ≡ toldOf flow (sums .at .totals) ⌝ }
+    ensures { λ r. ⌜ r ≡ foretoldOf flow (sums .at .totals) ⌝ }
 {
     let at = sums.at;
     let totals = at.totals;

@@ -7,6 +7,7 @@ use lib.Dec.{eqb, leb}
 use Rattle.basis.specs.Bytes.{sum}
 use Rattle.basis.specs.Choice.{when, _and_, _or_}
 use Rattle.basis.specs.Rows.{Row, _if_}
+use Rattle.basis.specs.Told.{Told, yes, no, flagOf}
 use Rattle.packet.specs.Wire.{turned, replyOf}
 use Rattle.packet.specs.Write.{shortBy}
 use Rattle.reply.specs.declared.Status.{Status}
@@ -41,7 +42,7 @@ heardOf mid b = when (isReply mid b) (statusOf (getD b 3 0) (getD b 4 0) (getD b
 abbrev pub replyRows : ℕ → ℕ → Bool → Bool → List ℕ → List Row
 replyRows mid last busy sink out = 32 if not (isLast last) ∷ shortBy (replyOf mid last busy sink) out ∷ []
 
--- an answer in 01's words: the number for no, 0 for yes
-abbrev pub numberOf : Status → ℕ
-numberOf (Heard last busy sink) = 0
-numberOf (Refused n) = n
+-- the answer in 01's numbers: last ID, whether Busy, whether AUX reads sink
+abbrev pub toldOf : Status → Told
+toldOf (Heard last busy sink) = yes (last ∷ flagOf busy ∷ flagOf sink ∷ [])
+toldOf (Refused n) = no n

@@ -4,10 +4,10 @@ use mathlib.Core.List.{List, _++_}
 use mathlib.Core.Bool.{Bool, true, false, not}
 use mathlib.Core.Path.{_≡_, refl, sym, ap, _∙_, subst}
 use native.Mathlib.Omega.{arith}
-use lib.Dec.{eqb, leb}
+use lib.Dec.{eqb}
 use lib.ListN.{length, getD, take, getD-replicate, length-set, length-append}
 use lib.Seq.{length-take-le, take-all, take-add, getD-set-same, getD-set-other}
-use borrow.Author.Tests.{eq-eqb, ne-eqb, le-leb, lt-leb}
+use borrow.Author.Tests.{eq-eqb, ne-eqb}
 use Rattle.basis.specs.Bytes.{laid}
 use Rattle.basis.specs.Choice.{_or_}
 use Rattle.basis.proofs.Choices.{when-true, when-false}
@@ -28,7 +28,7 @@ use Rattle.collect.proofs.Kept.{held-more}
 use Rattle.collect.proofs.Sounds.{begun-slots}
 use Rattle.sign.specs.Sound.{collectedOf, soundOf}
 use Rattle.hear.specs.Join.{beginsOf, bodyIn, Right, Open, Whole}
-use Rattle.sign.specs.Join.{signOf, staysOf, startsOf, storesOf, releaseOf, releasedOf, countedOf, placedOf, joinOf}
+use Rattle.sign.specs.Join.{signOf, staysOf, startsOf, storesOf, releaseOf, countedOf, placedOf, joinOf}
 use Rattle.sign.specs.Receive.{heardOf, receiveOf}
 use Rattle.service.specs.Delivery.{afterPackets, answerTo, Awaits, Delivered}
 use Rattle.sign.specs.declared.Sign.{Sign}
@@ -37,6 +37,7 @@ use Rattle.hear.specs.declared.Outcome.the-variants.{Stored}
 use Rattle.hear.proofs.Places.{stored-slots, whole-body}
 use Rattle.sign.proofs.Joining.{sound-receives}
 use Rattle.service.specs.Good.{Good}
+use Rattle.service.proofs.Joins.{counted-stored, counted-released}
 use Rattle.service.proofs.Keeps.{receive-good}
 
 -- the collection after the first packets of a body
@@ -172,8 +173,7 @@ module _ (s : Sign) (good : Good s) (mid id : ℕ) (body : List ℕ) (known : id
 
   -- what is placed is Stored while packets are missing
   stores : (t : Sign) (k : ℕ) (c : Collection) → suc k < totalOf body → Up id body (suc k) c → countedOf t c ≡ storesOf t c
-  stores t k c more u =
-      when-false (leb (c .total) (heldOf (c .lens))) (releasedOf t c) (storesOf t c) (lt-leb (c .total) (heldOf (c .lens)) (omega (arith, u .total, u .held)))
+  stores t k c more u = counted-stored t c (omega (arith, u .total, u .held))
 
   -- and of the whole collection the joined data are the body
   joins : (k : ℕ) (c : Collection) → suc k ≡ totalOf body → Up id body (suc k) c → getD (c .lens) k 0 ≡ length (partOf body k)
@@ -192,7 +192,7 @@ module _ (s : Sign) (good : Good s) (mid id : ℕ) (body : List ℕ) (known : id
   releases : (t : Sign) (k : ℕ) (c : Collection) → suc k ≡ totalOf body → Up id body (suc k) c → getD (c .lens) k 0 ≡ length (partOf body k)
       → countedOf t c ≡ releaseOf t id body
   releases t k c last u end =
-      when-true (leb (c .total) (heldOf (c .lens))) (releasedOf t c) (storesOf t c) (le-leb (c .total) (heldOf (c .lens)) (omega (arith, u .total, u .held)))
+      counted-released t c (omega (arith, u .total, u .held))
       ∙ ap (λ (n : ℕ). releaseOf t n (joinedOf (c .lens) (c .room))) (u .named)
       ∙ ap (releaseOf t id) (joins k c last u end)
 
@@ -282,3 +282,8 @@ module _ (s : Sign) (good : Good s) (mid id : ℕ) (body : List ℕ) (known : id
         empty = λ p e n place q. ap (λ (t : Sign). t .room) (delivers-left p (NoProgram n place) e q) ∙ none-room;
         rests = λ p e n place q. ap (λ (t : Sign). t .run) (delivers-left p (NoProgram n place) e q);
       }
+
+-- packets keep the record sound
+pub packets-good : (s : Sign) → Good s → (mid id : ℕ) (body : List ℕ) (n : ℕ) → Good (afterPackets s mid id body n)
+packets-good s good mid id body zero = good
+packets-good s good mid id body (suc n) = receive-good (afterPackets s mid id body n) mid (packetAt mid id body n) (packets-good s good mid id body n)

@@ -38,9 +38,9 @@ use Rattle.sign.proofs.Joining.{sound-receives, unsound-receives}
 use Rattle.sign.proofs.Sounds.{sound-parts}
 use Rattle.sign.proofs.Stepping.{sound-steps, unsound-steps}
 
--- where the outcome doesn't move, the record is the one before
+-- where the outcome doesn't move, the record is the one before and no body comes with it
 abbrev Still : Sign → Received → Type 0
-Still s r = movesOf (r .outcome) ≡ false → r .sign ≡ s
+Still s r = movesOf (r .outcome) ≡ false → r ≡ staysOf s (r .outcome)
 
 moved : {A : Type 0} → true ≡ false → A
 moved e = let z : _≡_ {A = ℕ} 0 1 = cc in absurd (omega arith)
@@ -86,12 +86,21 @@ heard-still s b (Normal id total position len) = join-still s id total position 
 heard-still s b (Unread n) = stays-still s (Refused n)
 
 -- a query, a repeat and a refusal leave the record, sound or not
-pub receive-still : (s : Sign) (mid : ℕ) (b : List ℕ) → movesOf (receiveOf s mid b .outcome) ≡ false → receiveOf s mid b .sign ≡ s
-receive-still s mid b = go (soundOf s) refl
+pub receive-stays : (s : Sign) (mid : ℕ) (b : List ℕ) → movesOf (receiveOf s mid b .outcome) ≡ false
+    → receiveOf s mid b ≡ staysOf s (receiveOf s mid b .outcome)
+receive-stays s mid b = go (soundOf s) refl
   where
     go : (t : Bool) → soundOf s ≡ t → Still s (receiveOf s mid b)
     go true e = subst (λ (r : Received). Still s r) (sym (sound-receives s mid b e)) (heard-still s b (readOf mid b))
     go false e = subst (λ (r : Received). Still s r) (sym (unsound-receives s mid b e)) (stays-still s (Refused 16))
+
+pub receive-still : (s : Sign) (mid : ℕ) (b : List ℕ) → movesOf (receiveOf s mid b .outcome) ≡ false → receiveOf s mid b .sign ≡ s
+unfolding staysOf
+receive-still s mid b h = ap (λ (r : Received). r .sign) (receive-stays s mid b h)
+
+pub receive-none : (s : Sign) (mid : ℕ) (b : List ℕ) → movesOf (receiveOf s mid b .outcome) ≡ false → take (receiveOf s mid b .len) (receiveOf s mid b .body) ≡ []
+unfolding staysOf
+receive-none s mid b h = ap (λ (r : Received). take (r .len) (r .body)) (receive-stays s mid b h)
 
 -- a Busy record is left by every packet that isn't a reset, its run and its room too
 busy-join : (s : Sign) (id total position : ℕ) (part : List ℕ) → (s .run .len ≡ 0 → ⊥) → joinOf s id total position part .sign ≡ s

@@ -94,10 +94,15 @@ steps-said (suc n) s g =
     ∙ ap (λ (r : Stepped). r .answer ∷ saidRun n (r .sign .room) (r .sign .run)) (sound-steps s (g .sound))
     ∙ ap (λ (xs : List Answer). runStep (s .room) (s .run) .answer ∷ xs) (room-said s g n)
 
--- and so many of them
-after-good : (n : ℕ) (s : Sign) → Good s → Good (afterSteps n s)
-after-good zero s g = g
-after-good (suc n) s g = after-good n (stepOf s .sign) (step-good s g)
+-- steps keep a record sound
+pub steps-good : (n : ℕ) (s : Sign) → Good s → Good (afterSteps n s)
+steps-good zero s g = g
+steps-good (suc n) s g = steps-good n (stepOf s .sign) (step-good s g)
+
+-- and leave the last completed ID
+pub steps-last : (n : ℕ) (s : Sign) → Good s → afterSteps n s .last ≡ s .last
+steps-last zero s g = refl
+steps-last (suc n) s g = steps-last n (stepOf s .sign) (step-good s g) ∙ ap (λ (r : Stepped). r .sign .last) (sound-steps s (g .sound))
 
 after-next : (n : ℕ) (s : Sign) → afterSteps (suc n) s ≡ stepOf (afterSteps n s) .sign
 after-next zero s = refl
@@ -117,11 +122,11 @@ step-empty s g busy none =
     (eq-eqb (went s g .len) 0 (sym (ap (λ (r : Stepped). r .sign .run .len) (sound-steps s (g .sound))) ∙ none))
 
 -- while a line is Busy its body stays in the room
-steps-hold : (n : ℕ) (s : Sign) → Good s → ((k : ℕ) → k ≤ n → afterSteps k s .run .len ≡ 0 → ⊥) → afterSteps n s .room ≡ s .room
+pub steps-hold : (n : ℕ) (s : Sign) → Good s → ((k : ℕ) → k ≤ n → afterSteps k s .run .len ≡ 0 → ⊥) → afterSteps n s .room ≡ s .room
 steps-hold zero s g busy = refl
 steps-hold (suc n) s g busy =
     ap (λ (t : Sign). t .room) (after-next n s)
-    ∙ step-holds (afterSteps n s) (after-good n s g) (λ z. busy (suc n) (omega arith) (ap (λ (t : Sign). t .run .len) (after-next n s) ∙ z))
+    ∙ step-holds (afterSteps n s) (steps-good n s g) (λ z. busy (suc n) (omega arith) (ap (λ (t : Sign). t .run .len) (after-next n s) ∙ z))
     ∙ steps-hold n s g (λ k h. busy k (omega arith))
 
 -- and its last step empties the room
@@ -130,7 +135,21 @@ steps-empty : (n : ℕ) (s : Sign) → Good s → 0 < n → ((k : ℕ) → k < n
 steps-empty zero s g some busy none = absurd (omega arith)
 steps-empty (suc n) s g some busy none =
     ap (λ (t : Sign). t .room) (after-next n s)
-    ∙ step-empty (afterSteps n s) (after-good n s g) (busy n (omega arith)) (sym (ap (λ (t : Sign). t .run .len) (after-next n s)) ∙ none)
+    ∙ step-empty (afterSteps n s) (steps-good n s g) (busy n (omega arith)) (sym (ap (λ (t : Sign). t .run .len) (after-next n s)) ∙ none)
+
+-- a line that was started
+module _ (s : Sign) (b : List ℕ) (σ : Settings) (g : Good s) (w : s .room ≡ roomOf b) (e : s .run ≡ startedOf (length b) σ) where
+  -- its steps are those of the run that starts with its body
+  pub started-run : (k : ℕ) → afterSteps k s .run ≡ afterRun k (roomOf b) (startedOf (length b) σ)
+  started-run k = steps-run k s g ∙ ap (λ (room : List ℕ). afterRun k room (s .run)) w ∙ ap (afterRun k (roomOf b)) e
+
+  -- and so are its answers
+  pub started-said : (k : ℕ) → saidSteps k s ≡ saidRun k (roomOf b) (startedOf (length b) σ)
+  started-said k = steps-said k s g ∙ ap (λ (room : List ℕ). saidRun k room (s .run)) w ∙ ap (saidRun k (roomOf b)) e
+
+  -- it is Busy before the last of its steps
+  pub busy-steps : settingsSound σ ≡ true → judgeOf b ≡ Finite → (k : ℕ) → k < length (lineOf b σ) → afterSteps k s .run .len ≡ 0 → ⊥
+  busy-steps set fin k before z = line-ends b fin σ set .busy-before k before (sym (ap (λ (r : Run). r .len) (started-run k)) ∙ z)
 
 pub on-time : (mid : ℕ) (es : List Event) (s : Sign) (b : List ℕ) (σ : Settings) → Good s → s .room ≡ roomOf b → s .run ≡ startedOf (length b) σ
     → settingsSound σ ≡ true
@@ -147,7 +166,7 @@ on-time mid es s b σ g w e set fin u =
       ready = λ all. ap (λ (t : Sign). t .run .len) (driver-after mid es s u) ∙ ap (λ (k : ℕ). afterSteps k s .run .len) all ∙ none;
       empty = λ all.
           ap (λ (t : Sign). t .room) (driver-after mid es s u) ∙ ap (λ (k : ℕ). afterSteps k s .room) all ∙ steps-empty m s g some busy none;
-      said = λ all. driver-said mid es s u ∙ ap (λ (k : ℕ). saidSteps k s) all ∙ says ∙ l .performed;
+      said = λ all. driver-said mid es s u ∙ ap (λ (k : ℕ). saidSteps k s) all ∙ started-said s b σ g w e m ∙ l .performed;
     }
   where
     l : LineEnds b σ
@@ -159,17 +178,11 @@ on-time mid es s b σ g w e set fin u =
     m : ℕ
     m = length (lineOf b σ)
 
-    run : (k : ℕ) → afterSteps k s .run ≡ afterRun k (roomOf b) (startedOf (length b) σ)
-    run k = steps-run k s g ∙ ap (λ (room : List ℕ). afterRun k room (s .run)) w ∙ ap (afterRun k (roomOf b)) e
-
-    says : saidSteps m s ≡ saidRun m (roomOf b) (startedOf (length b) σ)
-    says = steps-said m s g ∙ ap (λ (room : List ℕ). saidRun m room (s .run)) w ∙ ap (saidRun m (roomOf b)) e
-
     busy : (k : ℕ) → k < m → afterSteps k s .run .len ≡ 0 → ⊥
-    busy k before z = l .busy-before k before (sym (ap (λ (r : Run). r .len) (run k)) ∙ z)
+    busy = busy-steps s b σ g w e set fin
 
     none : afterSteps m s .run .len ≡ 0
-    none = ap (λ (r : Run). r .len) (run m ∙ l .ready-then)
+    none = ap (λ (r : Run). r .len) (started-run s b σ g w e m ∙ l .ready-then)
 
     some : 0 < m
     some = go m refl

@@ -58,3 +58,9 @@ abbrev pub Undisturbed : ℕ → List Event → Sign → Type 0
 Undisturbed mid [] s = Unit
 Undisturbed mid (step ∷ es) s = Undisturbed mid es (stepOf s .sign)
 Undisturbed mid (bytes b ∷ es) s = (s .run .len ≡ 0 → ⊥) × ((readOf mid b ≡ ResetRead → ⊥) × Undisturbed mid es s)
+
+-- none of the bytes among the events are a reset for this MID
+abbrev pub Quiet : ℕ → List Event → Type 0
+Quiet mid [] = Unit
+Quiet mid (step ∷ es) = Quiet mid es
+Quiet mid (bytes b ∷ es) = (readOf mid b ≡ ResetRead → ⊥) × Quiet mid es

@@ -1,5 +1,4 @@
 pub mod Delivery
-pub mod Dispatch
 pub mod Driver
 pub mod Good
 pub mod Punctual

@@ -3,14 +3,14 @@
 use Prim.Native.Nat.{ℕ, _<_}
 use mathlib.Core.List.{List}
 use mathlib.Core.Path.{_≡_}
-use lib.ListN.{length, replicate}
+use lib.ListN.{length, take, replicate}
 use Rattle.room.specs.Room.{roomOf}
 use Rattle.perform.specs.declared.settings.Settings.{Settings}
 use Rattle.course.specs.Price.{sumBy, scans, millis}
 use Rattle.reckon.specs.Forecast.{forecastOf}
 use Rattle.totals.specs.Totals.{totalsOf}
 use Rattle.reckon.specs.declared.reckon.Foretold.the-variants.{Ends}
-use Rattle.machine.specs.Line.{lineOf, performed}
+use Rattle.machine.specs.Line.{lineOf, roundsOf, performed}
 use Rattle.service.specs.Driver.{Event, afterEvents, saidEvents, stepsIn}
 use Rattle.sign.specs.declared.Sign.{Sign}
 
@@ -23,3 +23,10 @@ pub record OnTime (mid : ℕ) (es : List Event) (s : Sign) (b : List ℕ) (σ : 
   pub ready : stepsIn es ≡ length (lineOf b σ) → afterEvents mid es s .run .len ≡ 0
   pub empty : stepsIn es ≡ length (lineOf b σ) → afterEvents mid es s .room ≡ replicate 84 0
   pub said : stepsIn es ≡ length (lineOf b σ) → saidEvents mid es s ≡ performed (lineOf b σ)
+
+-- an endless line is Busy whatever the steps among the events, with the body in the room, and the answers are the first of what its
+-- rounds perform
+pub record Unending (mid : ℕ) (es : List Event) (s : Sign) (b : List ℕ) (σ : Settings) : Type 0 where
+  pub busy : afterEvents mid es s .run .len ≡ 0 → ⊥
+  pub holds : afterEvents mid es s .room ≡ roomOf b
+  pub said : saidEvents mid es s ≡ performed (take (stepsIn es) (roundsOf (stepsIn es) b σ))

@@ -12,13 +12,14 @@ use mir.Val.{boolByte}
 use borrow.Author.Tests.{lt-ltb, le-ltb, eq-eqb, ne-eqb}
 use borrow.Rule.Slice.PartMut.{putMid}
 use Rattle.basis.specs.Bytes.{laid}
+use Rattle.basis.specs.Told.{Told, flagOf}
 use Rattle.basis.proofs.Choices.{when-true, when-false}
 use Rattle.basis.proofs.Laid.{laid-lent, length-laid}
 use Rattle.words.specs.Words.{wordOf, wordsOf, resultOf}
-use Rattle.hear.specs.Hear.{numberOf}
+use Rattle.hear.specs.Hear.{toldOf}
 use Rattle.hear.specs.declared.Outcome.{Outcome}
 use Rattle.hear.specs.declared.Outcome.the-variants.{Query, Reset, Repeat, Stored, Released, Refused}
-use Rattle.words.specs.Told.{answerRow, firstOr, toldIn, flagOf}
+use Rattle.words.specs.Told.{answerRow, firstOr, toldIn}
 use Rattle.words.specs.Says.{outcomeOf, programOf, placeOf, receivedBytes}
 
 -- a word is four bytes
@@ -85,13 +86,13 @@ pub told-short : (n : ℕ) (bytes answer : List ℕ) → length answer / 4 < n �
 told-short n bytes answer few = sym (when-true (ltb (length answer) (4 * n)) answer (laid bytes answer) (lt-ltb (length answer) (4 * n) (omega arith)))
 
 -- what is told of x, where x is what the call answers and the answer has room for it
-pub answers : {X : Type 0} (number : X → ℕ) (words : X → List ℕ) (size : ℕ) (answer : List ℕ) {after : List ℕ} (x y : X) → size ≤ length answer
-    → x ≡ y → after ≡ toldIn size (wordsOf (words x)) answer
-    → (number x ≡ firstOr (answerRow size answer ∷ []) (number y)) × (after ≡ toldIn size (wordsOf (words y)) answer)
-answers {X} number words size answer x y room e h =
+pub answers : {X : Type 0} (told : X → Told) (result : Told → ℕ) (size : ℕ) (answer : List ℕ) {after : List ℕ} (x y : X) → size ≤ length answer
+    → x ≡ y → after ≡ toldIn size (wordsOf (told x .values)) answer
+    → (result (told x) ≡ firstOr (answerRow size answer ∷ []) (result (told y))) × (after ≡ toldIn size (wordsOf (told y .values)) answer)
+answers {X} told result size answer x y room e h =
     let long : ltb (length answer) size ≡ false = le-ltb (length answer) size room in (
-      ap number e ∙ sym (when-false (ltb (length answer) size) 252 (number y) long),
-      h ∙ ap (λ (z : X). toldIn size (wordsOf (words z)) answer) e,
+      ap (λ (z : X). result (told z)) e ∙ sym (when-false (ltb (length answer) size) 252 (result (told y)) long),
+      h ∙ ap (λ (z : X). toldIn size (wordsOf (told z .values)) answer) e,
     )
 
 -- Bools laid as bytes
@@ -107,7 +108,7 @@ pub row-past : (size : ℕ) (answer : List ℕ) (n : ℕ) → size ≤ length an
 row-past size answer n room = sym (when-false (ltb (length answer) size) 252 n (le-ltb (length answer) size room))
 
 -- an outcome that is told something is no refusal
-pub told-yes : (o : Outcome) → (outcomeOf o ≡ 0 → ⊥) → numberOf o ≡ 0
+pub told-yes : (o : Outcome) → (outcomeOf o ≡ 0 → ⊥) → toldOf o .number ≡ 0
 told-yes Query h = refl
 told-yes Reset h = refl
 told-yes Repeat h = refl

@@ -1,8 +1,9 @@
 -- How numbers stand in a lent answer and in a call's result.
 use Prim.Native.Nat.{ℕ, _+_, _*_, _/_, _%_}
 use mathlib.Core.List.{List, [], _∷_, _++_}
+use lib.ListN.{getD}
+use Rattle.packet.specs.Write.{toldOf}
 use Rattle.packet.specs.declared.write.Written.{Written}
-use Rattle.packet.specs.declared.write.Written.the-variants.{Wrote, Refused}
 
 -- a word is four bytes, lowest first
 abbrev pub wordOf : ℕ → List ℕ
@@ -17,7 +18,6 @@ wordsOf (x ∷ xs) = wordOf x ++ wordsOf xs
 abbrev pub resultOf : (number value : ℕ) → ℕ
 resultOf number value = number + 256 * (value % 16777216)
 
--- a writer's result: the length written as value, or the number for no
+-- a writer's result: the number for no, and the length written
 abbrev pub wroteOf : Written → ℕ
-wroteOf (Wrote n) = resultOf 0 n
-wroteOf (Refused n) = resultOf n 0
+wroteOf w = resultOf (toldOf w .number) (getD (toldOf w .values) 0 0)

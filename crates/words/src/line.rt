@@ -5,8 +5,9 @@ use judge::Verdict;
 use reckon::Foretold;
 ghost use mathlib.Core.Path.{_≡_};
 ghost use mathlib.Core.List.{[], _∷_};
+ghost use Rattle.reckon.specs.Forecast.{toldOf};
 ghost use Rattle.words.specs.Words.{wordsOf};
-ghost use Rattle.words.specs.Told.{answerRow, firstOr, toldIn, judgedOf, foretoldWords, foretoldResult};
+ghost use Rattle.words.specs.Told.{answerRow, firstOr, toldIn, judgedOf, foretoldResult};
 
 // Whether a body is an accepted program, and whether it is endless.
 pub fn tell_verdict(verdict: Verdict) -> u32
@@ -22,7 +23,7 @@ pub fn tell_verdict(verdict: Verdict) -> u32
 // How long a body runs: four words.
 pub fn tell_forecast(foretold: Foretold, answer: &mut [u8]) -> u32
     ensures result { λ r. ⌜ r ≡ firstOr (answerRow 16 (now (answer .entry)) ∷ []) (foretoldResult foretold) ⌝ }
-    ensures told { λ _. ⌜ now (answer .exit) ≡ toldIn 16 (wordsOf (foretoldWords foretold)) (now (answer .entry)) ⌝ }
+    ensures told { λ _. ⌜ now (answer .exit) ≡ toldIn 16 (wordsOf (toldOf foretold .values)) (now (answer .entry)) ⌝ }
 {
     if answer.len() < 16 {
         return 252;

@@ -4,7 +4,7 @@ use hear::Outcome;
 use judge::Verdict;
 ghost use mathlib.Core.Path.{_≡_};
 ghost use mathlib.Core.List.{[], _∷_};
-ghost use Rattle.hear.specs.Hear.{numberOf};
+ghost use Rattle.hear.specs.Hear.{toldOf};
 ghost use Rattle.words.specs.Told.{answerRow, firstOr, toldIn};
 ghost use Rattle.words.specs.Says.{outcomeOf, programOf, placeOf, receivedBytes};
 
@@ -60,7 +60,7 @@ fn program_at(outcome: Outcome) -> u64
 
 // The number for no of an outcome, 0 for yes.
 pub fn tell_outcome(outcome: Outcome) -> u32
-    ensures { λ r. ⌜ r ≡ numberOf outcome ⌝ }
+    ensures { λ r. ⌜ r ≡ toldOf outcome .number ⌝ }
 {
     match outcome {
         Outcome::Query => 0,
@@ -74,7 +74,7 @@ pub fn tell_outcome(outcome: Outcome) -> u32
 
 // What a sign made of the bytes that came: four words, and the body after them.
 pub fn tell_received(outcome: Outcome, body: &[u8; 84], len: usize, answer: &mut [u8]) -> u32
-    ensures result { λ r. ⌜ r ≡ firstOr (answerRow 100 (now (answer .entry)) ∷ []) (numberOf outcome) ⌝ }
+    ensures result { λ r. ⌜ r ≡ firstOr (answerRow 100 (now (answer .entry)) ∷ []) (toldOf outcome .number) ⌝ }
     ensures told { λ _. ⌜ now (answer .exit) ≡ toldIn 100 (receivedBytes outcome (now (body .entry)) len) (now (answer .entry)) ⌝ }
 {
     if answer.len() < 100 {

@@ -5,10 +5,10 @@ use perform::Performed;
 use program::Kind;
 ghost use mathlib.Core.Path.{_≡_};
 ghost use mathlib.Core.List.{[], _∷_};
-ghost use Rattle.machine.specs.Step.{numberOf};
+ghost use Rattle.program.specs.Answers.{kindOf};
+ghost use Rattle.machine.specs.Step.{valuesOf, toldOf};
 ghost use Rattle.words.specs.Words.{wordsOf};
 ghost use Rattle.words.specs.Told.{answerRow, firstOr, toldIn};
-ghost use Rattle.words.specs.Says.{kindOf, performedWords, stepWords};
 
 // A command's kind as a number, in the order of 01's table.
 fn kind_code(kind: Kind) -> u64
@@ -36,7 +36,7 @@ fn kind_code(kind: Kind) -> u64
 
 // Writes what a command answered: seven words.
 fn lay_performed(performed: Performed, answer: &mut [u8])
-    ensures { λ _. ⌜ now (answer .exit) ≡ toldIn 28 (wordsOf (performedWords performed)) (now (answer .entry)) ⌝ }
+    ensures { λ _. ⌜ now (answer .exit) ≡ toldIn 28 (wordsOf (valuesOf performed)) (now (answer .entry)) ⌝ }
 {
     let kind = performed.kind;
     let scans = performed.scans;
@@ -58,8 +58,8 @@ fn lay_performed(performed: Performed, answer: &mut [u8])
 
 // What a step answered: seven words, zeros where it is idle.
 pub fn tell_stepped(said: Answer, answer: &mut [u8]) -> u32
-    ensures result { λ r. ⌜ r ≡ firstOr (answerRow 28 (now (answer .entry)) ∷ []) (numberOf said) ⌝ }
-    ensures told { λ _. ⌜ now (answer .exit) ≡ toldIn 28 (wordsOf (stepWords said)) (now (answer .entry)) ⌝ }
+    ensures result { λ r. ⌜ r ≡ firstOr (answerRow 28 (now (answer .entry)) ∷ []) (toldOf said .number) ⌝ }
+    ensures told { λ _. ⌜ now (answer .exit) ≡ toldIn 28 (wordsOf (toldOf said .values)) (now (answer .entry)) ⌝ }
 {
     if answer.len() < 28 {
         return 252;

@@ -5,14 +5,14 @@ use reply::Status;
 ghost use mathlib.Core.Path.{_≡_};
 ghost use mathlib.Core.List.{[], _∷_};
 ghost use Rattle.reader.specs.Read.{toldOf};
-ghost use Rattle.reply.specs.Reply.{numberOf};
+ghost use Rattle.reply.specs.Reply.{toldOf as heardTold};
 ghost use Rattle.words.specs.Words.{wordsOf};
-ghost use Rattle.words.specs.Told.{answerRow, firstOr, toldIn, readWords, heardWords};
+ghost use Rattle.words.specs.Told.{answerRow, firstOr, toldIn};
 
 // What bytes off the line are: five words.
 pub fn tell_reading(reading: Reading, answer: &mut [u8]) -> u32
     ensures result { λ r. ⌜ r ≡ firstOr (answerRow 20 (now (answer .entry)) ∷ []) (toldOf reading .number) ⌝ }
-    ensures told { λ _. ⌜ now (answer .exit) ≡ toldIn 20 (wordsOf (readWords reading)) (now (answer .entry)) ⌝ }
+    ensures told { λ _. ⌜ now (answer .exit) ≡ toldIn 20 (wordsOf (toldOf reading .values)) (now (answer .entry)) ⌝ }
 {
     if answer.len() < 20 {
         return 252;
@@ -44,8 +44,8 @@ pub fn tell_reading(reading: Reading, answer: &mut [u8]) -> u32
 
 // What a reply tells: three words.
 pub fn tell_status(status: Status, answer: &mut [u8]) -> u32
-    ensures result { λ r. ⌜ r ≡ firstOr (answerRow 12 (now (answer .entry)) ∷ []) (numberOf status) ⌝ }
-    ensures told { λ _. ⌜ now (answer .exit) ≡ toldIn 12 (wordsOf (heardWords status)) (now (answer .entry)) ⌝ }
+    ensures result { λ r. ⌜ r ≡ firstOr (answerRow 12 (now (answer .entry)) ∷ []) (heardTold status .number) ⌝ }
+    ensures told { λ _. ⌜ now (answer .exit) ≡ toldIn 12 (wordsOf (heardTold status .values)) (now (answer .entry)) ⌝ }
 {
     if answer.len() < 12 {
         return 252;

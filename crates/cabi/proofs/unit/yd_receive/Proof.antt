@@ -1,7 +1,7 @@
 -- `yd_receive` takes the record out of the image, and puts the next one back; a refusal leaves image and answer.
 use mathlib.Core.Path.{_≡_, ap, subst, _∙_}
 use mathlib.Core.List.{[], _∷_}
-use Rattle.hear.specs.Hear.{numberOf}
+use Rattle.hear.specs.Hear.{toldOf}
 use Rattle.image.specs.Layout.{imageOf, recordOf}
 use Rattle.sign.specs.Receive.{receiveOf}
 use Rattle.sign.specs.declared.Sign.{Sign}
@@ -17,7 +17,7 @@ returns : tie.Need-returns
 returns c =
     let a = c .before .before .before .before .args in
     let y = receiveOf (recordOf (a .image .now)) (a .mid) (a .bytes .now) in
-    unsized 100 (a .image .now) (a .answer .now) (numberOf (y .outcome)) (receivedBytes (y .outcome) (y .body) (y .len)) (imageOf (y .sign)) (c .if1 .taken)
+    unsized 100 (a .image .now) (a .answer .now) (toldOf (y .outcome) .number) (receivedBytes (y .outcome) (y .body) (y .len)) (imageOf (y .sign)) (c .if1 .taken)
 
 load-requires : tie.Need-load-requires
 load-requires c κs = search needs
@@ -32,7 +32,7 @@ returns-2 : tie.Need-returns-2
 returns-2 c =
     let a = c .before .before .before .before .before .before .before .before .args in
     let y = receiveOf (recordOf (a .image .now)) (a .mid) (a .bytes .now) in
-    too-short 100 (a .image .now) (a .answer .now) (numberOf (y .outcome)) (receivedBytes (y .outcome) (y .body) (y .len)) (imageOf (y .sign)) (c .before .before .load .result) (c .short .result) (c .before .before .before .before .if1 .left) (c .before .if2 .taken) (c .before .before .load .ensures) (c .short .ensures)
+    too-short 100 (a .image .now) (a .answer .now) (toldOf (y .outcome) .number) (receivedBytes (y .outcome) (y .body) (y .len)) (imageOf (y .sign)) (c .before .before .load .result) (c .short .result) (c .before .before .before .before .if1 .left) (c .before .if2 .taken) (c .before .before .load .ensures) (c .short .ensures)
 
 receive-requires : tie.Need-receive-requires
 receive-requires c κs = search needs
@@ -51,8 +51,8 @@ returns-3 c =
     let a = c .before .before .before .before .before .before .before .before .before .before .before .before .before .before .before .args in
     let y = receiveOf (recordOf (a .image .now)) (a .mid) (a .bytes .now) in
     let e = c .before .before .before .before .before .before .before .receive .ensures ∙ ap (λ (s : Sign). receiveOf s (a .mid) (a .bytes .now)) (c .before .before .before .before .before .before .before .before .before .load .ensures) in
-    let t = subst (λ (x : Received). (c .before .before .before .tell-received .result ≡ firstOr (answerRow 100 (a .answer .now) ∷ []) (numberOf (x .outcome))) × (c .before .before .before .tell-received .last .1 .1 .1 .0 ≡ toldIn 100 (receivedBytes (x .outcome) (x .body) (x .len)) (a .answer .now))) e (c .before .before .before .tell-received .ensures) in
-    refused-went 100 (a .image .now) (a .answer .now) (numberOf (y .outcome)) (receivedBytes (y .outcome) (y .body) (y .len)) (imageOf (y .sign)) (c .before .before .before .before .before .before .before .before .before .before .before .if1 .left) (c .before .before .before .before .before .before .before .before .if2 .left) (ill-receives (a .image .now) (a .mid) (a .bytes .now)) (t .0) (t .1) (quiet-receive (y .outcome) (y .body) (y .len)) (c .if3 .taken)
+    let t = subst (λ (x : Received). (c .before .before .before .tell-received .result ≡ firstOr (answerRow 100 (a .answer .now) ∷ []) (toldOf (x .outcome) .number)) × (c .before .before .before .tell-received .last .1 .1 .1 .0 ≡ toldIn 100 (receivedBytes (x .outcome) (x .body) (x .len)) (a .answer .now))) e (c .before .before .before .tell-received .ensures) in
+    refused-went 100 (a .image .now) (a .answer .now) (toldOf (y .outcome) .number) (receivedBytes (y .outcome) (y .body) (y .len)) (imageOf (y .sign)) (c .before .before .before .before .before .before .before .before .before .before .before .if1 .left) (c .before .before .before .before .before .before .before .before .if2 .left) (ill-receives (a .image .now) (a .mid) (a .bytes .now)) (t .0) (t .1) (quiet-receive (y .outcome) (y .body) (y .len)) (c .if3 .taken)
 
 store-requires : tie.Need-store-requires
 store-requires c κs = search needs
@@ -68,8 +68,8 @@ returns-4 c =
     let a = c .before .before .before .before .before .before .before .before .before .before .before .before .before .before .before .before .before .before .before .before .args in
     let y = receiveOf (recordOf (a .image .now)) (a .mid) (a .bytes .now) in
     let e = c .before .before .before .before .before .before .before .before .before .before .before .before .receive .ensures ∙ ap (λ (s : Sign). receiveOf s (a .mid) (a .bytes .now)) (c .before .before .before .before .before .before .before .before .before .before .before .before .before .before .load .ensures) in
-    let t = subst (λ (x : Received). (c .before .before .before .before .before .before .before .before .tell-received .result ≡ firstOr (answerRow 100 (a .answer .now) ∷ []) (numberOf (x .outcome))) × (c .before .before .before .before .before .before .before .before .tell-received .last .1 .1 .1 .0 ≡ toldIn 100 (receivedBytes (x .outcome) (x .body) (x .len)) (a .answer .now))) e (c .before .before .before .before .before .before .before .before .tell-received .ensures) in
-    told-went 100 (a .image .now) (a .answer .now) (numberOf (y .outcome)) (receivedBytes (y .outcome) (y .body) (y .len)) (imageOf (y .sign)) (c .before .before .before .before .before .before .before .before .before .before .before .before .before .before .before .before .if1 .left) (c .before .before .before .before .before .before .before .before .before .before .before .before .before .if2 .left) (ill-receives (a .image .now) (a .mid) (a .bytes .now)) (t .0) (t .1) _ (c .before .before .before .before .before .if3 .left) (c .before .before .store .ensures ∙ ap (λ (x : Received). imageOf (x .sign)) e)
+    let t = subst (λ (x : Received). (c .before .before .before .before .before .before .before .before .tell-received .result ≡ firstOr (answerRow 100 (a .answer .now) ∷ []) (toldOf (x .outcome) .number)) × (c .before .before .before .before .before .before .before .before .tell-received .last .1 .1 .1 .0 ≡ toldIn 100 (receivedBytes (x .outcome) (x .body) (x .len)) (a .answer .now))) e (c .before .before .before .before .before .before .before .before .tell-received .ensures) in
+    told-went 100 (a .image .now) (a .answer .now) (toldOf (y .outcome) .number) (receivedBytes (y .outcome) (y .body) (y .len)) (imageOf (y .sign)) (c .before .before .before .before .before .before .before .before .before .before .before .before .before .before .before .before .if1 .left) (c .before .before .before .before .before .before .before .before .before .before .before .before .before .if2 .left) (ill-receives (a .image .now) (a .mid) (a .bytes .now)) (t .0) (t .1) _ (c .before .before .before .before .before .if3 .left) (c .before .before .store .ensures ∙ ap (λ (x : Received). imageOf (x .sign)) e)
 
 pub yd-receive-spec : {M : Type 1} → statement M
 yd-receive-spec =

@@ -1,7 +1,7 @@
 -- `yd_reset` writes the record after a reset of the one in the image.
 use Rattle.basis.proofs.Tests.{tests}
 use mathlib.Core.Path.{_≡_, sym, ap, _∙_}
-use Rattle.hear.specs.Hear.{numberOf}
+use Rattle.hear.specs.Hear.{toldOf}
 use Rattle.image.specs.Layout.{imageOf, recordOf}
 use Rattle.sign.specs.Reset.{clearedOf}
 use Rattle.sign.specs.declared.Cleared.{Cleared}
@@ -30,8 +30,8 @@ returns-2 c =
     let i = c .before .before .before .before .before .before .before .args .image .now in
     let y = clearedOf (recordOf i) in
     let e = c .before .before .reset .ensures ∙ ap clearedOf (c .before .before .before .load .ensures) in
-    let n = c .before .tell-outcome .ensures ∙ ap (λ (x : Cleared). numberOf (x .outcome)) e in
-    let t = no-answer i (numberOf (y .outcome)) (imageOf (y .sign)) (c .before .before .before .before .before .if1 .left) (ill-resets i) (λ z. c .if2 .taken (n ∙ z)) in
+    let n = c .before .tell-outcome .ensures ∙ ap (λ (x : Cleared). toldOf (x .outcome) .number) e in
+    let t = no-answer i (toldOf (y .outcome) .number) (imageOf (y .sign)) (c .before .before .before .before .before .if1 .left) (ill-resets i) (λ z. c .if2 .taken (n ∙ z)) in
     (n ∙ t .0, t .1)
 
 store-requires : tie.Need-store-requires
@@ -45,8 +45,8 @@ returns-3 c =
     let i = c .before .before .before .before .before .before .before .before .before .before .before .before .args .image .now in
     let y = clearedOf (recordOf i) in
     let e = c .before .before .before .before .before .before .before .reset .ensures ∙ ap clearedOf (c .before .before .before .before .before .before .before .before .load .ensures) in
-    let n = c .before .before .before .before .before .before .tell-outcome .ensures ∙ ap (λ (x : Cleared). numberOf (x .outcome)) e in
-    went-on i (numberOf (y .outcome)) (imageOf (y .sign)) (c .before .before .before .before .before .before .before .before .before .before .if1 .left) (ill-resets i) _ (sym n ∙ c .before .before .before .before .before .if2 .left) (c .before .before .store .ensures ∙ ap (λ (x : Cleared). imageOf (x .sign)) e)
+    let n = c .before .before .before .before .before .before .tell-outcome .ensures ∙ ap (λ (x : Cleared). toldOf (x .outcome) .number) e in
+    went-on i (toldOf (y .outcome) .number) (imageOf (y .sign)) (c .before .before .before .before .before .before .before .before .before .before .if1 .left) (ill-resets i) _ (sym n ∙ c .before .before .before .before .before .if2 .left) (c .before .before .store .ensures ∙ ap (λ (x : Cleared). imageOf (x .sign)) e)
 
 pub yd-reset-spec : {M : Type 1} → statement M
 yd-reset-spec =

@@ -1,13 +1,12 @@
 -- `yd_step` takes the record out of the image, and puts the next one back; a refusal leaves image and answer.
 use mathlib.Core.Path.{_≡_, ap, subst, _∙_}
 use mathlib.Core.List.{[], _∷_}
-use Rattle.machine.specs.Step.{numberOf}
+use Rattle.machine.specs.Step.{toldOf}
 use Rattle.image.specs.Layout.{imageOf, recordOf}
 use Rattle.sign.specs.Step.{stepOf}
 use Rattle.sign.specs.declared.Stepped.{Stepped}
 use Rattle.words.specs.Words.{wordsOf}
 use Rattle.words.specs.Told.{answerRow, firstOr, toldIn}
-use Rattle.words.specs.Says.{stepWords}
 use Rattle.cabi.proofs.Lays.{unsized, too-short, refused-went, told-went, ill-steps, quiet-step}
 use borrow.Author.Needs.{needs}
 use Rattle.cabi.proofs.unit.yd_step.Statement.{statement}
@@ -17,7 +16,7 @@ returns : tie.Need-returns
 returns c =
     let a = c .before .before .before .args in
     let y = stepOf (recordOf (a .image .now)) in
-    unsized 28 (a .image .now) (a .answer .now) (numberOf (y .answer)) (wordsOf (stepWords (y .answer))) (imageOf (y .sign)) (c .if1 .taken)
+    unsized 28 (a .image .now) (a .answer .now) (toldOf (y .answer) .number) (wordsOf (toldOf (y .answer) .values)) (imageOf (y .sign)) (c .if1 .taken)
 
 load-requires : tie.Need-load-requires
 load-requires c κs = search needs
@@ -32,7 +31,7 @@ returns-2 : tie.Need-returns-2
 returns-2 c =
     let a = c .before .before .before .before .before .before .before .args in
     let y = stepOf (recordOf (a .image .now)) in
-    too-short 28 (a .image .now) (a .answer .now) (numberOf (y .answer)) (wordsOf (stepWords (y .answer))) (imageOf (y .sign)) (c .before .before .load .result) (c .short .result) (c .before .before .before .before .if1 .left) (c .before .if2 .taken) (c .before .before .load .ensures) (c .short .ensures)
+    too-short 28 (a .image .now) (a .answer .now) (toldOf (y .answer) .number) (wordsOf (toldOf (y .answer) .values)) (imageOf (y .sign)) (c .before .before .load .result) (c .short .result) (c .before .before .before .before .if1 .left) (c .before .if2 .taken) (c .before .before .load .ensures) (c .short .ensures)
 
 step-requires : tie.Need-step-requires
 step-requires c κs = search needs
@@ -51,8 +50,8 @@ returns-3 c =
     let a = c .before .before .before .before .before .before .before .before .before .before .before .before .args in
     let y = stepOf (recordOf (a .image .now)) in
     let e = c .before .before .before .before .before .step .ensures ∙ ap stepOf (c .before .before .before .before .before .before .before .load .ensures) in
-    let t = subst (λ (x : Stepped). (c .before .before .before .tell-stepped .result ≡ firstOr (answerRow 28 (a .answer .now) ∷ []) (numberOf (x .answer))) × (c .before .before .before .tell-stepped .last .1 .0 ≡ toldIn 28 (wordsOf (stepWords (x .answer))) (a .answer .now))) e (c .before .before .before .tell-stepped .ensures) in
-    refused-went 28 (a .image .now) (a .answer .now) (numberOf (y .answer)) (wordsOf (stepWords (y .answer))) (imageOf (y .sign)) (c .before .before .before .before .before .before .before .before .before .if1 .left) (c .before .before .before .before .before .before .if2 .left) (ill-steps (a .image .now)) (t .0) (t .1) (quiet-step (y .answer)) (c .if3 .taken)
+    let t = subst (λ (x : Stepped). (c .before .before .before .tell-stepped .result ≡ firstOr (answerRow 28 (a .answer .now) ∷ []) (toldOf (x .answer) .number)) × (c .before .before .before .tell-stepped .last .1 .0 ≡ toldIn 28 (wordsOf (toldOf (x .answer) .values)) (a .answer .now))) e (c .before .before .before .tell-stepped .ensures) in
+    refused-went 28 (a .image .now) (a .answer .now) (toldOf (y .answer) .number) (wordsOf (toldOf (y .answer) .values)) (imageOf (y .sign)) (c .before .before .before .before .before .before .before .before .before .if1 .left) (c .before .before .before .before .before .before .if2 .left) (ill-steps (a .image .now)) (t .0) (t .1) (quiet-step (y .answer)) (c .if3 .taken)
 
 store-requires : tie.Need-store-requires
 store-requires c κs = search needs
@@ -68,8 +67,8 @@ returns-4 c =
     let a = c .before .before .before .before .before .before .before .before .before .before .before .before .before .before .before .before .before .args in
     let y = stepOf (recordOf (a .image .now)) in
     let e = c .before .before .before .before .before .before .before .before .before .before .step .ensures ∙ ap stepOf (c .before .before .before .before .before .before .before .before .before .before .before .before .load .ensures) in
-    let t = subst (λ (x : Stepped). (c .before .before .before .before .before .before .before .before .tell-stepped .result ≡ firstOr (answerRow 28 (a .answer .now) ∷ []) (numberOf (x .answer))) × (c .before .before .before .before .before .before .before .before .tell-stepped .last .1 .0 ≡ toldIn 28 (wordsOf (stepWords (x .answer))) (a .answer .now))) e (c .before .before .before .before .before .before .before .before .tell-stepped .ensures) in
-    told-went 28 (a .image .now) (a .answer .now) (numberOf (y .answer)) (wordsOf (stepWords (y .answer))) (imageOf (y .sign)) (c .before .before .before .before .before .before .before .before .before .before .before .before .before .before .if1 .left) (c .before .before .before .before .before .before .before .before .before .before .before .if2 .left) (ill-steps (a .image .now)) (t .0) (t .1) _ (c .before .before .before .before .before .if3 .left) (c .before .before .store .ensures ∙ ap (λ (x : Stepped). imageOf (x .sign)) e)
+    let t = subst (λ (x : Stepped). (c .before .before .before .before .before .before .before .before .tell-stepped .result ≡ firstOr (answerRow 28 (a .answer .now) ∷ []) (toldOf (x .answer) .number)) × (c .before .before .before .before .before .before .before .before .tell-stepped .last .1 .0 ≡ toldIn 28 (wordsOf (toldOf (x .answer) .values)) (a .answer .now))) e (c .before .before .before .before .before .before .before .before .tell-stepped .ensures) in
+    told-went 28 (a .image .now) (a .answer .now) (toldOf (y .answer) .number) (wordsOf (toldOf (y .answer) .values)) (imageOf (y .sign)) (c .before .before .before .before .before .before .before .before .before .before .before .before .before .before .if1 .left) (c .before .before .before .before .before .before .before .before .before .before .before .if2 .left) (ill-steps (a .image .now)) (t .0) (t .1) _ (c .before .before .before .before .before .if3 .left) (c .before .before .store .ensures ∙ ap (λ (x : Stepped). imageOf (x .sign)) e)
 
 pub yd-step-spec : {M : Type 1} → statement M
 yd-step-spec =

@@ -1,7 +1,6 @@
 -- `yd_read_packet` tells what the reader reads.
+use Rattle.basis.specs.Told.{Told}
 use Rattle.reader.specs.Read.{readOf, toldOf}
-use Rattle.reader.specs.declared.read.Reading.{Reading}
-use Rattle.words.specs.Told.{readWords}
 use Rattle.cabi.proofs.Lays.{told-of}
 use Rattle.basis.proofs.Tests.{tests}
 use borrow.Author.Needs.{needs}
@@ -23,7 +22,7 @@ same-length c = search needs
 returns-2 : tie.Need-returns-2
 returns-2 c =
     let a = c .before .before .before .before .before .before .before .before .args in
-    told-of (λ (x : Reading). toldOf x .number) readWords 20 (a .answer .now) (c .before .before .before .before .read-packet .result) (readOf (a .mid) (a .bytes .now)) (c .before .before .before .before .read-packet .ensures) (c .before .before .tell-reading .ensures)
+    told-of toldOf (λ (t : Told). t .number) 20 (a .answer .now) (c .before .before .before .before .read-packet .result) (readOf (a .mid) (a .bytes .now)) (c .before .before .before .before .read-packet .ensures) (c .before .before .tell-reading .ensures)
 
 pub yd-read-packet-spec : {M : Type 1} → statement M
 yd-read-packet-spec =

@@ -1,6 +1,6 @@
 -- `yd_read_reply` tells what the reply's reader hears.
-use Rattle.reply.specs.Reply.{heardOf, numberOf}
-use Rattle.words.specs.Told.{heardWords}
+use Rattle.basis.specs.Told.{Told}
+use Rattle.reply.specs.Reply.{heardOf, toldOf}
 use Rattle.cabi.proofs.Lays.{told-of}
 use borrow.Author.Needs.{needs}
 use Rattle.cabi.proofs.wire.yd_read_reply.Statement.{statement}
@@ -18,7 +18,7 @@ same-length c = search needs
 returns : tie.Need-returns
 returns c =
     let a = c .before .before .before .before .before .before .before .args in
-    told-of numberOf heardWords 12 (a .answer .now) (c .before .before .before .before .read-reply .result) (heardOf (a .mid) (a .bytes .now)) (c .before .before .before .before .read-reply .ensures) (c .before .before .tell-status .ensures)
+    told-of toldOf (λ (t : Told). t .number) 12 (a .answer .now) (c .before .before .before .before .read-reply .result) (heardOf (a .mid) (a .bytes .now)) (c .before .before .before .before .read-reply .ensures) (c .before .before .tell-status .ensures)
 
 pub yd-read-reply-spec : {M : Type 1} → statement M
 yd-read-reply-spec =

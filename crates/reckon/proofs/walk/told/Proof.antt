@@ -1,7 +1,7 @@
 -- `told` goes by how judging ended.
 use mathlib.Core.Path.{sym, ap}
 use Rattle.loops.specs.declared.Flow.{Flow}
-use Rattle.reckon.specs.Forecast.{toldOf}
+use Rattle.reckon.specs.Forecast.{foretoldOf}
 use borrow.Author.Needs.{needs}
 use Rattle.reckon.proofs.walk.told.Statement.{statement}
 use Rattle.reckon.proofs.walk.told.Tie as tie
@@ -16,13 +16,13 @@ enum-known-flow : tie.Need-enum-known-flow
 enum-known-flow c = search needs
 
 returns : tie.Need-returns
-returns c = sym (ap (λ (f : Flow). toldOf f (c .before .before .before .before .args .sums .at .totals)) (c .enum-told .given .1))
+returns c = sym (ap (λ (f : Flow). foretoldOf f (c .before .before .before .before .args .sums .at .totals)) (c .enum-told .given .1))
 
 returns-2 : tie.Need-returns-2
-returns-2 c = sym (ap (λ (f : Flow). toldOf f (c .before .before .before .before .args .sums .at .totals)) (c .enum-told2 .given .1))
+returns-2 c = sym (ap (λ (f : Flow). foretoldOf f (c .before .before .before .before .args .sums .at .totals)) (c .enum-told2 .given .1))
 
 returns-3 : tie.Need-returns-3
-returns-3 c = sym (ap (λ (f : Flow). toldOf f (c .before .before .before .before .before .args .sums .at .totals)) (c .before .flow .given .1))
+returns-3 c = sym (ap (λ (f : Flow). foretoldOf f (c .before .before .before .before .before .args .sums .at .totals)) (c .before .flow .given .1))
 
 pub told-spec : {M : Type 1} → statement M
 told-spec = tie.close (tie.spec enum-told enum-told-2 enum-known-flow returns returns-2 returns-3)

@@ -1,8 +1,9 @@
 -- `tell_forecast` lays the words of each answer; a refusal lays none.
 use mathlib.Core.Path.{sym, _∙_}
+use Rattle.basis.specs.Told.{Told}
+use Rattle.reckon.specs.Forecast.{toldOf}
 use Rattle.reckon.specs.declared.reckon.Foretold.the-variants.{Ends, Endless, Refused}
-use Rattle.words.specs.Words.{wordsOf}
-use Rattle.words.specs.Told.{foretoldResult, foretoldWords}
+use Rattle.words.specs.Words.{wordsOf, resultOf}
 use Rattle.words.proofs.Lays.{answers, told-none}
 use Rattle.basis.proofs.Tests.{tests}
 use borrow.Author.Needs.{needs}
@@ -49,7 +50,7 @@ returns-2 : tie.Need-returns-2
 returns-2 c =
     let g = c .before .before .before .before .before .before .before .before .before .before .foretold .given in
     let a = c .before .before .before .before .before .before .before .before .before .before .before .before .before .before .args in
-    let t = answers foretoldResult foretoldWords 16 (a .answer .now) (Ends (g .0 .0)) (a .foretold) (search needs) (sym (g .1)) (c .before .before .before .lay .ensures) in
+    let t = answers toldOf (λ (t : Told). resultOf (t .number) (t .place)) 16 (a .answer .now) (Ends (g .0 .0)) (a .foretold) (search needs) (sym (g .1)) (c .before .before .before .lay .ensures) in
     (c .result .ensures ∙ t .0, t .1)
 
 same-length-2 : tie.Need-same-length-2
@@ -58,7 +59,7 @@ same-length-2 c = search needs
 returns-3 : tie.Need-returns-3
 returns-3 c =
     let a = c .before .before .before .before .before .before .before .before .before .before .args in
-    let t = answers foretoldResult foretoldWords 16 (a .answer .now) Endless (a .foretold) (search needs) (sym (c .before .before .before .before .before .before .enum-told .given .1)) (c .before .before .before .lay2 .ensures) in
+    let t = answers toldOf (λ (t : Told). resultOf (t .number) (t .place)) 16 (a .answer .now) Endless (a .foretold) (search needs) (sym (c .before .before .before .before .before .before .enum-told .given .1)) (c .before .before .before .lay2 .ensures) in
     (c .result2 .ensures ∙ t .0, t .1)
 
 returns-4 : tie.Need-returns-4
@@ -66,7 +67,7 @@ unfolding wordsOf
 returns-4 c =
     let g = c .before .before .foretold2 .given in
     let a = c .before .before .before .before .before .before .args in
-    let t = answers foretoldResult foretoldWords 16 (a .answer .now) (Refused (g .0 .0) (g .0 .1 .0)) (a .foretold) (search needs) (sym (g .1)) (told-none _ (a .answer .now) (search needs)) in
+    let t = answers toldOf (λ (t : Told). resultOf (t .number) (t .place)) 16 (a .answer .now) (Refused (g .0 .0) (g .0 .1 .0)) (a .foretold) (search needs) (sym (g .1)) (told-none _ (a .answer .now) (search needs)) in
     (c .result3 .ensures ∙ t .0, t .1)
 
 pub tell-forecast-spec : {M : Type 1} → statement M

@@ -1,10 +1,9 @@
 -- `tell_reading` lays the words of each reading; a refusal lays none.
 use mathlib.Core.Path.{sym}
+use Rattle.basis.specs.Told.{Told}
 use Rattle.reader.specs.Read.{toldOf}
-use Rattle.reader.specs.declared.read.Reading.{Reading}
 use Rattle.reader.specs.declared.read.Reading.the-variants.{Query, Reset, Normal, Refused}
 use Rattle.words.specs.Words.{wordsOf}
-use Rattle.words.specs.Told.{readWords}
 use Rattle.words.proofs.Lays.{answers, told-none}
 use Rattle.basis.proofs.Tests.{tests}
 use borrow.Author.Needs.{needs}
@@ -62,7 +61,7 @@ same-length c = search needs
 returns-2 : tie.Need-returns-2
 returns-2 c =
     let a = c .before .before .before .before .before .before .before .before .before .args in
-    answers (λ (x : Reading). toldOf x .number) readWords 20 (a .answer .now) Query (a .reading) (search needs) (sym (c .before .before .before .before .before .enum-told .given .1)) (c .before .before .lay .ensures)
+    answers toldOf (λ (t : Told). t .number) 20 (a .answer .now) Query (a .reading) (search needs) (sym (c .before .before .before .before .before .enum-told .given .1)) (c .before .before .lay .ensures)
 
 same-length-2 : tie.Need-same-length-2
 same-length-2 c = search needs
@@ -70,7 +69,7 @@ same-length-2 c = search needs
 returns-3 : tie.Need-returns-3
 returns-3 c =
     let a = c .before .before .before .before .before .before .before .before .before .args in
-    answers (λ (x : Reading). toldOf x .number) readWords 20 (a .answer .now) Reset (a .reading) (search needs) (sym (c .before .before .before .before .before .enum-told2 .given .1)) (c .before .before .lay2 .ensures)
+    answers toldOf (λ (t : Told). t .number) 20 (a .answer .now) Reset (a .reading) (search needs) (sym (c .before .before .before .before .before .enum-told2 .given .1)) (c .before .before .lay2 .ensures)
 
 same-length-3 : tie.Need-same-length-3
 same-length-3 c = search needs
@@ -79,14 +78,14 @@ returns-4 : tie.Need-returns-4
 returns-4 c =
     let g = c .before .before .before .before .before .before .reading .given in
     let a = c .before .before .before .before .before .before .before .before .before .before .args in
-    answers (λ (x : Reading). toldOf x .number) readWords 20 (a .answer .now) (Normal (g .0 .0) (g .0 .1 .0) (g .0 .1 .1 .0) (g .0 .1 .1 .1 .0)) (a .reading) (search needs) (sym (g .1)) (c .before .before .lay3 .ensures)
+    answers toldOf (λ (t : Told). t .number) 20 (a .answer .now) (Normal (g .0 .0) (g .0 .1 .0) (g .0 .1 .1 .0) (g .0 .1 .1 .1 .0)) (a .reading) (search needs) (sym (g .1)) (c .before .before .lay3 .ensures)
 
 returns-5 : tie.Need-returns-5
 unfolding wordsOf
 returns-5 c =
     let g = c .before .reading2 .given in
     let a = c .before .before .before .before .before .args in
-    answers (λ (x : Reading). toldOf x .number) readWords 20 (a .answer .now) (Refused (g .0 .0)) (a .reading) (search needs) (sym (g .1)) (told-none _ (a .answer .now) (search needs))
+    answers toldOf (λ (t : Told). t .number) 20 (a .answer .now) (Refused (g .0 .0)) (a .reading) (search needs) (sym (g .1)) (told-none _ (a .answer .now) (search needs))
 
 pub tell-reading-spec : {M : Type 1} → statement M
 tell-reading-spec =

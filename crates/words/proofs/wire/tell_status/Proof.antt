@@ -1,9 +1,9 @@
 -- `tell_status` lays the words of what was heard; a refusal lays none.
 use mathlib.Core.Path.{sym, _∙_}
-use Rattle.reply.specs.Reply.{numberOf}
+use Rattle.basis.specs.Told.{Told}
+use Rattle.reply.specs.Reply.{toldOf}
 use Rattle.reply.specs.declared.Status.the-variants.{Heard, Refused}
 use Rattle.words.specs.Words.{wordsOf}
-use Rattle.words.specs.Told.{heardWords}
 use Rattle.words.proofs.Lays.{answers, told-none, heard-lays}
 use Rattle.basis.proofs.Tests.{tests}
 use borrow.Author.Needs.{needs}
@@ -44,14 +44,14 @@ returns-2 : tie.Need-returns-2
 returns-2 c =
     let g = c .before .before .before .before .before .before .status .given in
     let a = c .before .before .before .before .before .before .before .before .before .before .args in
-    answers numberOf heardWords 12 (a .answer .now) (Heard (g .0 .0) (g .0 .1 .0) (g .0 .1 .1 .0)) (a .status) (search needs) (sym (g .1)) (c .before .before .lay .ensures ∙ heard-lays (g .0 .0) (g .0 .1 .0) (g .0 .1 .1 .0) (a .answer .now))
+    answers toldOf (λ (t : Told). t .number) 12 (a .answer .now) (Heard (g .0 .0) (g .0 .1 .0) (g .0 .1 .1 .0)) (a .status) (search needs) (sym (g .1)) (c .before .before .lay .ensures ∙ heard-lays (g .0 .0) (g .0 .1 .0) (g .0 .1 .1 .0) (a .answer .now))
 
 returns-3 : tie.Need-returns-3
 unfolding wordsOf
 returns-3 c =
     let g = c .before .status2 .given in
     let a = c .before .before .before .before .before .args in
-    answers numberOf heardWords 12 (a .answer .now) (Refused (g .0 .0)) (a .status) (search needs) (sym (g .1)) (told-none _ (a .answer .now) (search needs))
+    answers toldOf (λ (t : Told). t .number) 12 (a .answer .now) (Refused (g .0 .0)) (a .status) (search needs) (sym (g .1)) (told-none _ (a .answer .now) (search needs))
 
 pub tell-status-spec : {M : Type 1} → statement M
 tell-status-spec =

@@ -1,0 +1,262 @@
+-- The wrong units do not keep the promises: each is caught by one call on one input, which any unit that keeps them answers as ours does.
+use Prim.Native.Nat.{ℕ}
+use mathlib.Core.Bool.{Bool, true, false}
+use mathlib.Core.List.{List, [], _∷_}
+use mathlib.Core.Path.{_≡_, refl, sym, ap, _∙_}
+use native.Mathlib.Omega.{arith}
+use lib.ListN.{length, getD, replicate}
+use Rattle.basis.specs.Bytes.{Bytes, sum, laid}
+use Rattle.basis.specs.Told.{Told}
+use Rattle.packet.specs.Wire.{packetOf, packetsOf, packetAt, queryOf, replyOf, partOf}
+use Rattle.program.specs.Command.{readOf as commandAt}
+use Rattle.perform.specs.Price.{answerOf}
+use Rattle.perform.specs.Settings.{soundOf as settingsSound}
+use Rattle.perform.specs.declared.settings.Settings.{Settings}
+use Rattle.judge.specs.Standing.{standOf}
+use Rattle.judge.specs.Verdict.{judgeOf}
+use Rattle.reader.specs.Read.{readOf}
+use Rattle.reader.specs.declared.read.Reading.the-variants.{Refused as Unread}
+use Rattle.reader.proofs.Refusals.{refused-lowest}
+use Rattle.reply.specs.Reply.{isLast, heardOf}
+use Rattle.course.specs.Steps.{settle}
+use Rattle.collect.specs.Slots.{slotsOf, heldOf, joinedOf, sameOf, begunOf, storedOf}
+use Rattle.collect.specs.Sound.{soundOf as collectionSound}
+use Rattle.room.specs.Room.{roomOf}
+use Rattle.machine.specs.Sound.{soundOf as runSound}
+use Rattle.machine.specs.Step.{readyOf, startedOf, stepOf as runStep}
+use Rattle.reckon.specs.Forecast.{settingsAt, forecastOf, toldOf as forecastTold}
+use Rattle.reckon.specs.declared.reckon.Foretold.{Foretold}
+use Rattle.reckon.specs.declared.reckon.Foretold.the-variants.{Ends}
+use Rattle.reckon.proofs.Demand.{forecast-holds}
+use Rattle.totals.specs.Totals.{totalsOf}
+use Rattle.hear.specs.Join.{bodyIn}
+use Rattle.sign.specs.Join.{signOf, staysOf, joinOf, releaseOf}
+use Rattle.sign.specs.Receive.{receiveOf}
+use Rattle.sign.specs.Reset.{freshOf, startSettings, powerOn, clearedOf}
+use Rattle.sign.specs.Sound.{soundOf}
+use Rattle.sign.specs.Step.{stepOf}
+use Rattle.sign.specs.declared.Sign.{Sign}
+use Rattle.repeater.specs.Repeat.{repeatOf}
+use Rattle.service.specs.Good.{Roomy}
+use Rattle.promises.specs.Bench.{hi, w5}
+use Rattle.promises.specs.Unit.{Wrote, ours}
+use Rattle.promises.specs.Dispatch.{valueAt}
+use Rattle.promises.specs.Keeps.{Keeps}
+use Rattle.promises.specs.Wrong.{refusing, eager, noisy, rumour, hearsay, idle, scribbling, trusting, madeUp, inventing, lenient, atOnce, fixed, startingOver, shaken, forgetful, agreeable, deaf, orderly, frozen, sulking, rosy, mute, parrot, encore, counting}
+use Rattle.promises.proofs.Pins.{no-other-unit}
+
+-- the settings that a sign is set to when it is switched on
+usual : Settings
+usual = settingsAt 4 1
+
+-- a sign that stands at the first command of a body
+shows : List ℕ → Sign
+shows b = signOf 5 (bodyIn b) (startedOf (length b) (startSettings 16 0))
+
+-- its rooms have their sizes
+roomy-on : Roomy powerOn
+unfolding freshOf readyOf begunOf
+roomy-on = record { lens = refl; room = refl }
+
+roomy-w5 : Roomy (shows w5)
+unfolding shows startedOf roomOf laid
+roomy-w5 = record { lens = refl; room = refl }
+
+-- `^R`, and `^L2^W1^E`
+again : List ℕ
+again = 0x5E ∷ 0x52 ∷ []
+
+twice : List ℕ
+twice = 0x5E ∷ 0x4C ∷ 0x32 ∷ 0x5E ∷ 0x57 ∷ 0x31 ∷ 0x5E ∷ 0x45 ∷ []
+
+-- 20 bytes of room
+room20 : List ℕ
+room20 = replicate 20 0
+
+pub refusing-fails : Keeps refusing → ⊥
+refusing-fails k =
+    let n : _≡_ {A = ℕ} 1 0 = ap (λ (t : Told). t .number) (k .wire .reads .queried 0x80) in
+    omega arith
+
+pub eager-fails : Keeps eager → ⊥
+unfolding packetOf sum readOf
+eager-fails k =
+    let n : _≡_ {A = ℕ} 2 1 = ap (valueAt 0) (k .wire .reads .queried 0x80) in
+    omega arith
+
+nothing-read : readOf 0x80 [] ≡ Unread 1
+unfolding readOf
+nothing-read = refl
+
+pub noisy-fails : Keeps noisy → ⊥
+noisy-fails k =
+    let n : _≡_ {A = ℕ} 2 0 = ap (valueAt 0) (k .wire .reads .refused 0x80 [] 1 (refused-lowest 0x80 [] 1 nothing-read)) in
+    omega arith
+
+rumour-bytes : Bytes rumour
+rumour-bytes = (omega arith, (omega arith, (omega arith, (omega arith, (omega arith, (omega arith, (omega arith, (omega arith, tt))))))))
+
+-- no reply of a sign is the rumour
+no-reply : (last : ℕ) (busy sink : Bool) → isLast last ≡ true → rumour ≡ replyOf 0x80 last busy sink → ⊥
+unfolding replyOf
+no-reply last busy sink known e =
+    let z : 0x40 ≡ last = ap (λ (b : List ℕ). getD b 3 0) e in
+    let f : false ≡ true = ap isLast z ∙ known in
+    let n : _≡_ {A = ℕ} 0 1 = cc in
+    omega arith
+
+pub hearsay-fails : Keeps hearsay → ⊥
+unfolding sameOf
+hearsay-fails k =
+    let n : _≡_ {A = ℕ} 0 35 = ap (λ (t : Told). t .number) (k .wire .hears .unheard 0x80 rumour rumour-bytes no-reply) in
+    omega arith
+
+pub idle-fails : Keeps idle → ⊥
+unfolding room20 packetOf partOf
+idle-fails k =
+    let n : _≡_ {A = ℕ} 0 12 = ap (λ (w : Wrote). valueAt 0 (w .told)) (no-other-unit idle k .write 0x80 5 hi 0 room20) in
+    omega arith
+
+pub scribbling-fails : Keeps scribbling → ⊥
+unfolding room20 packetOf partOf
+scribbling-fails k =
+    let n : _≡_ {A = ℕ} 34 0 = ap (λ (w : Wrote). w .told .number) (no-other-unit scribbling k .write 0x80 5 hi 0 room20) in
+    omega arith
+
+pub trusting-fails : Keeps trusting → ⊥
+unfolding judgeOf
+trusting-fails k =
+    let n : _≡_ {A = ℕ} 0 21 = ap (λ (t : Told). t .number) (no-other-unit trusting k .judge []) in
+    omega arith
+
+foretold-w5 : forecastOf w5 4 1 ≡ Ends (totalsOf 1 0 500)
+unfolding usual commandAt judgeOf settingsSound answerOf
+foretold-w5 = forecast-holds w5 usual refl refl
+
+pub inventing-fails : Keeps inventing → ⊥
+inventing-fails k =
+    let e : madeUp (forecastOf w5 4 1) ≡ Ends (totalsOf 1 1 500) = ap madeUp foretold-w5 in
+    let n : _≡_ {A = ℕ} 1 0 =
+    sym (ap (λ (f : Foretold). valueAt 2 (forecastTold f)) e)
+    ∙ ap (valueAt 2) (no-other-unit inventing k .forecast w5 4 1)
+    ∙ ap (λ (f : Foretold). valueAt 2 (forecastTold f)) foretold-w5 in
+    omega arith
+
+pub lenient-fails : Keeps lenient → ⊥
+unfolding forecastOf
+lenient-fails k =
+    let n : _≡_ {A = ℕ} 0 17 = ap (λ (t : Told). t .number) (no-other-unit lenient k .forecast [] 0 1) in
+    omega arith
+
+pub at-once-fails : Keeps atOnce → ⊥
+at-once-fails k =
+    let n : _≡_ {A = ℕ} 0 1 = ap (valueAt 1) (no-other-unit atOnce k .forecast w5 4 1) ∙ ap (λ (f : Foretold). valueAt 1 (forecastTold f)) foretold-w5 in
+    omega arith
+
+pub fixed-fails : Keeps fixed → ⊥
+unfolding freshOf readyOf startedOf clearedOf stepOf runStep settle answerOf receiveOf joinOf releaseOf staysOf soundOf runSound collectionSound judgeOf commandAt settingsSound roomOf slotsOf heldOf joinedOf sameOf begunOf storedOf standOf laid sum packetOf partOf packetsOf replyOf readOf heardOf repeatOf
+fixed-fails k =
+    let n : _≡_ {A = ℕ} 1 3 = ap length (no-other-unit fixed k .receive powerOn roomy-on 0x80 (packetAt 0x80 5 w5 0) .body) in
+    omega arith
+
+pub starting-over-fails : Keeps startingOver → ⊥
+unfolding shows freshOf readyOf startedOf clearedOf stepOf runStep settle answerOf receiveOf joinOf releaseOf staysOf soundOf runSound collectionSound judgeOf commandAt settingsSound roomOf slotsOf heldOf joinedOf sameOf begunOf storedOf standOf laid sum packetOf partOf packetsOf replyOf readOf heardOf repeatOf
+starting-over-fails k =
+    let n : _≡_ {A = ℕ} 0 3 = ap (λ (s : Sign). s .run .len) (no-other-unit startingOver k .receive (shows w5) roomy-w5 0x80 [] .next) in
+    omega arith
+
+pub shaken-fails : Keeps shaken → ⊥
+unfolding shows freshOf readyOf startedOf clearedOf stepOf runStep settle answerOf receiveOf joinOf releaseOf staysOf soundOf runSound collectionSound judgeOf commandAt settingsSound roomOf slotsOf heldOf joinedOf sameOf begunOf storedOf standOf laid sum packetOf partOf packetsOf replyOf readOf heardOf repeatOf
+shaken-fails k =
+    let n : _≡_ {A = ℕ} 0 3 = ap (λ (s : Sign). s .run .len) (no-other-unit shaken k .receive (shows w5) roomy-w5 0x80 [] .next) in
+    omega arith
+
+pub forgetful-fails : Keeps forgetful → ⊥
+unfolding freshOf readyOf startedOf clearedOf stepOf runStep settle answerOf receiveOf joinOf releaseOf staysOf soundOf runSound collectionSound judgeOf commandAt settingsSound roomOf slotsOf heldOf joinedOf sameOf begunOf storedOf standOf laid sum packetOf partOf packetsOf replyOf readOf heardOf repeatOf
+forgetful-fails k =
+    let n : _≡_ {A = ℕ} 0x41 5 = ap (λ (s : Sign). s .last) (no-other-unit forgetful k .receive powerOn roomy-on 0x80 (packetAt 0x80 5 w5 0) .next) in
+    omega arith
+
+-- a body of two packets, and one that differs in its first byte
+long : ℕ → List ℕ
+long x = x ∷ replicate 19 0x20
+
+-- a sign that has its first packet
+collecting : Sign
+collecting = ours .receive powerOn 0x80 (packetAt 0x80 5 (long 0x5E) 0) .next
+
+roomy-collecting : Roomy collecting
+unfolding collecting long freshOf readyOf startedOf clearedOf stepOf runStep settle answerOf receiveOf joinOf releaseOf staysOf soundOf runSound collectionSound judgeOf commandAt settingsSound roomOf slotsOf heldOf joinedOf sameOf begunOf storedOf standOf laid sum packetOf partOf packetsOf replyOf readOf heardOf repeatOf
+roomy-collecting = record { lens = refl; room = refl }
+
+pub agreeable-fails : Keeps agreeable → ⊥
+unfolding collecting long freshOf readyOf startedOf clearedOf stepOf runStep settle answerOf receiveOf joinOf releaseOf staysOf soundOf runSound collectionSound judgeOf commandAt settingsSound roomOf slotsOf heldOf joinedOf sameOf begunOf storedOf standOf laid sum packetOf partOf packetsOf replyOf readOf heardOf repeatOf
+agreeable-fails k =
+    let n : _≡_ {A = ℕ} 0 13 = ap (λ (t : Told). t .number) (no-other-unit agreeable k .receive collecting roomy-collecting 0x80 (packetAt 0x80 5 (long 0x5F) 0) .told) in
+    omega arith
+
+pub deaf-fails : Keeps deaf → ⊥
+unfolding freshOf readyOf startedOf clearedOf stepOf runStep settle answerOf receiveOf joinOf releaseOf staysOf soundOf runSound collectionSound judgeOf commandAt settingsSound roomOf slotsOf heldOf joinedOf sameOf begunOf storedOf standOf laid sum packetOf partOf packetsOf replyOf readOf heardOf repeatOf
+deaf-fails k =
+    let n : _≡_ {A = ℕ} 0 5 = ap (λ (t : Told). t .number) (no-other-unit deaf k .receive powerOn roomy-on 0x81 (packetAt 0x80 5 w5 0) .told) in
+    omega arith
+
+pub orderly-fails : Keeps orderly → ⊥
+unfolding long freshOf readyOf startedOf clearedOf stepOf runStep settle answerOf receiveOf joinOf releaseOf staysOf soundOf runSound collectionSound judgeOf commandAt settingsSound roomOf slotsOf heldOf joinedOf sameOf begunOf storedOf standOf laid sum packetOf partOf packetsOf replyOf readOf heardOf repeatOf
+orderly-fails k =
+    let n : _≡_ {A = ℕ} 13 0 = ap (λ (t : Told). t .number) (no-other-unit orderly k .receive powerOn roomy-on 0x80 (packetAt 0x80 5 (long 0x5E) 1) .told) in
+    omega arith
+
+pub frozen-fails : Keeps frozen → ⊥
+unfolding shows freshOf readyOf startedOf clearedOf stepOf runStep settle answerOf receiveOf joinOf releaseOf staysOf soundOf runSound collectionSound judgeOf commandAt settingsSound roomOf slotsOf heldOf joinedOf sameOf begunOf storedOf standOf laid sum packetOf partOf packetsOf replyOf readOf heardOf repeatOf
+frozen-fails k =
+    let n : _≡_ {A = ℕ} 5 0x41 = ap (λ (s : Sign). s .last) (no-other-unit frozen k .clear (shows w5) roomy-w5 .next) in
+    omega arith
+
+roomy-again : Roomy (shows again)
+unfolding shows again startedOf roomOf laid
+roomy-again = record { lens = refl; room = refl }
+
+pub sulking-fails : Keeps sulking → ⊥
+unfolding shows again freshOf readyOf startedOf clearedOf stepOf runStep settle answerOf receiveOf joinOf releaseOf staysOf soundOf runSound collectionSound judgeOf commandAt settingsSound roomOf slotsOf heldOf joinedOf sameOf begunOf storedOf standOf laid sum packetOf partOf packetsOf replyOf readOf heardOf repeatOf
+sulking-fails k =
+    let n : _≡_ {A = ℕ} 16 0 = ap (λ (t : Told). t .number) (no-other-unit sulking k .step (shows again) roomy-again .told) in
+    omega arith
+
+pub rosy-fails : Keeps rosy → ⊥
+unfolding shows room20 freshOf readyOf startedOf clearedOf stepOf runStep settle answerOf receiveOf joinOf releaseOf staysOf soundOf runSound collectionSound judgeOf commandAt settingsSound roomOf slotsOf heldOf joinedOf sameOf begunOf storedOf standOf laid sum packetOf partOf packetsOf replyOf readOf heardOf repeatOf
+rosy-fails k =
+    let n : _≡_ {A = ℕ} 0x52 0x42 = ap (λ (w : Wrote). getD (w .buffer) 4 0) (no-other-unit rosy k .reply (shows w5) roomy-w5 0x80 false room20) in
+    omega arith
+
+pub mute-fails : Keeps mute → ⊥
+unfolding shows room20 freshOf readyOf startedOf clearedOf stepOf runStep settle answerOf receiveOf joinOf releaseOf staysOf soundOf runSound collectionSound judgeOf commandAt settingsSound roomOf slotsOf heldOf joinedOf sameOf begunOf storedOf standOf laid sum packetOf partOf packetsOf replyOf readOf heardOf repeatOf
+mute-fails k =
+    let n : _≡_ {A = ℕ} 0 3 = ap (λ (w : Wrote). valueAt 0 (w .told)) (no-other-unit mute k .copy (shows w5) roomy-w5 room20) in
+    omega arith
+
+pub parrot-fails : Keeps parrot → ⊥
+unfolding repeatOf
+parrot-fails k =
+    let n : _≡_ {A = ℕ} 0 1 = ap length (no-other-unit parrot k .repeat w5 1 1 []) in
+    omega arith
+
+pub encore-fails : Keeps encore → ⊥
+unfolding freshOf readyOf startedOf clearedOf stepOf runStep settle answerOf receiveOf joinOf releaseOf staysOf soundOf runSound collectionSound judgeOf commandAt settingsSound roomOf slotsOf heldOf joinedOf sameOf begunOf storedOf standOf laid sum packetOf partOf packetsOf replyOf readOf heardOf repeatOf
+encore-fails k =
+    let n : _≡_ {A = ℕ} 13 0 = ap (valueAt 0) (no-other-unit encore k .step (record { sign = powerOn; line = w5 }) roomy-on .told) in
+    omega arith
+
+-- a sign in the second pass of a loop
+passed : Sign
+passed = ours .step (ours .step (ours .step (shows twice) .next) .next) .next
+
+roomy-passed : Roomy passed
+unfolding passed shows twice freshOf readyOf startedOf clearedOf stepOf runStep settle answerOf receiveOf joinOf releaseOf staysOf soundOf runSound collectionSound judgeOf commandAt settingsSound roomOf slotsOf heldOf joinedOf sameOf begunOf storedOf standOf laid sum packetOf partOf packetsOf replyOf readOf heardOf repeatOf
+roomy-passed = record { lens = refl; room = refl }
+
+pub counting-fails : Keeps counting → ⊥
+unfolding passed shows twice freshOf readyOf startedOf clearedOf stepOf runStep settle answerOf receiveOf joinOf releaseOf staysOf soundOf runSound collectionSound judgeOf commandAt settingsSound roomOf slotsOf heldOf joinedOf sameOf begunOf storedOf standOf laid sum packetOf partOf packetsOf replyOf readOf heardOf repeatOf
+counting-fails k =
+    let n : _≡_ {A = ℕ} 0 13 = ap (valueAt 0) (no-other-unit counting k .step (record { sign = passed; script = [] }) roomy-passed .told) in
+    omega arith

@@ -42,7 +42,7 @@ use Rattle.promises.specs.Bench.{hi, w5}
 use Rattle.promises.specs.Unit.{Wrote, ours}
 use Rattle.promises.specs.Dispatch.{valueAt}
 use Rattle.promises.specs.Keeps.{Keeps}
-use Rattle.promises.specs.Wrong.{refusing, eager, noisy, rumour, hearsay, idle, scribbling, trusting, madeUp, inventing, lenient, atOnce, fixed, startingOver, shaken, forgetful, agreeable, deaf, orderly, frozen, sulking, rosy, mute, parrot, encore, counting}
+use Rattle.promises.specs.Wrong.{refusing, eager, noisy, rumour, hearsay, idle, scribbling, trusting, madeUp, inventing, lenient, atOnce, fixed, startingOver, shaken, forgetful, agreeable, deaf, orderly, surly, jumpy, frozen, sulking, rosy, mute, parrot, encore, counting}
 use Rattle.promises.proofs.Pins.{no-other-unit}
 
 -- the settings that a sign is set to when it is switched on
@@ -205,6 +205,18 @@ pub orderly-fails : Keeps orderly → ⊥
 unfolding long freshOf readyOf startedOf clearedOf stepOf runStep settle answerOf receiveOf joinOf releaseOf staysOf soundOf runSound collectionSound judgeOf commandAt settingsSound roomOf slotsOf heldOf joinedOf sameOf begunOf storedOf standOf laid sum packetOf partOf packetsOf replyOf readOf heardOf repeatOf
 orderly-fails k =
     let n : _≡_ {A = ℕ} 13 0 = ap (λ (t : Told). t .number) (no-other-unit orderly k .receive powerOn roomy-on 0x80 (packetAt 0x80 5 (long 0x5E) 1) .told) in
+    omega arith
+
+pub surly-fails : Keeps surly → ⊥
+unfolding freshOf readyOf startedOf clearedOf stepOf runStep settle answerOf receiveOf joinOf releaseOf staysOf soundOf runSound collectionSound judgeOf commandAt settingsSound roomOf slotsOf heldOf joinedOf sameOf begunOf storedOf standOf laid sum packetOf partOf packetsOf replyOf readOf heardOf repeatOf
+surly-fails k =
+    let n : _≡_ {A = ℕ} 99 0 = ap (λ (t : Told). t .number) (no-other-unit surly k .receive powerOn roomy-on 0x80 (queryOf 0x80) .told) in
+    omega arith
+
+pub jumpy-fails : Keeps jumpy → ⊥
+unfolding freshOf readyOf startedOf clearedOf stepOf runStep settle answerOf receiveOf joinOf releaseOf staysOf soundOf runSound collectionSound judgeOf commandAt settingsSound roomOf slotsOf heldOf joinedOf sameOf begunOf storedOf standOf laid sum packetOf partOf packetsOf replyOf readOf heardOf repeatOf
+jumpy-fails k =
+    let n : _≡_ {A = ℕ} 0 1 = ap (λ (t : Told). t .number) (no-other-unit jumpy k .receive powerOn roomy-on 0x80 [] .told) in
     omega arith
 
 pub frozen-fails : Keeps frozen → ⊥

@@ -4,7 +4,7 @@ use mathlib.Core.Bool.{Bool, true, false}
 use mathlib.Core.List.{List, [], _∷_, _++_}
 use lib.Dec.{eqb, ltb}
 use lib.ListN.{length, getD, take, drop, replicate}
-use Rattle.basis.specs.Choice.{when, _and_}
+use Rattle.basis.specs.Choice.{when, _and_, _or_}
 use Rattle.basis.specs.Told.{Told, yes, no}
 use Rattle.packet.specs.Wire.{replyOf}
 use Rattle.reader.specs.Read.{readOf, toldOf as readTold}
@@ -40,11 +40,20 @@ use Rattle.promises.specs.Unit.{Wrote, Next, Heard, Calls, ours, leftBy}
 use Rattle.promises.specs.Record.{stays}
 use Rattle.promises.specs.Line.{toldOfAll}
 
--- ours but for the two readers and the writer of packets
-abbrev pub ends : (read hear : ℕ → List ℕ → Told) → (write : ℕ → ℕ → List ℕ → ℕ → List ℕ → Wrote) → Calls Sign
-ends read hear write =
+-- ours but for these calls
+abbrev pub made : {R : Type 0} → (read hear : ℕ → List ℕ → Told) → (write : ℕ → ℕ → List ℕ → ℕ → List ℕ → Wrote) → (judge : List ℕ → Told)
+    → (repeat : List ℕ → ℕ → ℕ → List ℕ → List ℕ)
+    → (forecast : List ℕ → ℕ → ℕ → Told)
+    → (holds : R → Sign)
+    → (power : R)
+    → (receive : R → ℕ → List ℕ → Heard R)
+    → (step clear : R → Next R)
+    → (reply : R → ℕ → Bool → List ℕ → Wrote)
+    → (copy : R → List ℕ → Wrote)
+    → Calls R
+made read hear write judge repeat forecast holds power receive step clear reply copy =
     record {
-      holds = ours .holds;
+      holds = holds;
       read = read;
       hear = hear;
       query = ours .query;
@@ -52,57 +61,7 @@ ends read hear write =
       write = write;
       transmit = ours .transmit;
       answer = ours .answer;
-      judge = ours .judge;
-      forecast = ours .forecast;
-      power = ours .power;
-      receive = ours .receive;
-      step = ours .step;
-      clear = ours .clear;
-      reply = ours .reply;
-      copy = ours .copy;
-      repeat = ours .repeat;
-    }
-
--- ours but for judging and the repeater
-abbrev pub plans : (judge : List ℕ → Told) → (repeat : List ℕ → ℕ → ℕ → List ℕ → List ℕ) → Calls Sign
-plans judge repeat =
-    record {
-      holds = ours .holds;
-      read = ours .read;
-      hear = ours .hear;
-      query = ours .query;
-      reset = ours .reset;
-      write = ours .write;
-      transmit = ours .transmit;
-      answer = ours .answer;
       judge = judge;
-      forecast = ours .forecast;
-      power = ours .power;
-      receive = ours .receive;
-      step = ours .step;
-      clear = ours .clear;
-      reply = ours .reply;
-      copy = ours .copy;
-      repeat = repeat;
-    }
-
--- ours but for the forecast and the calls on a record, which may be another
-abbrev pub works : {R : Type 0} → (forecast : List ℕ → ℕ → ℕ → Told) → (holds : R → Sign) → (power : R) → (receive : R → ℕ → List ℕ → Heard R)
-    → (step clear : R → Next R)
-    → (reply : R → ℕ → Bool → List ℕ → Wrote)
-    → (copy : R → List ℕ → Wrote)
-    → Calls R
-works forecast holds power receive step clear reply copy =
-    record {
-      holds = holds;
-      read = ours .read;
-      hear = ours .hear;
-      query = ours .query;
-      reset = ours .reset;
-      write = ours .write;
-      transmit = ours .transmit;
-      answer = ours .answer;
-      judge = ours .judge;
       forecast = forecast;
       power = power;
       receive = receive;
@@ -110,10 +69,31 @@ works forecast holds power receive step clear reply copy =
       clear = clear;
       reply = reply;
       copy = copy;
-      repeat = ours .repeat;
+      repeat = repeat;
     }
 
--- ours but for one call
+-- but for the two readers and the writer of packets
+abbrev pub ends : (read hear : ℕ → List ℕ → Told) → (write : ℕ → ℕ → List ℕ → ℕ → List ℕ → Wrote) → Calls Sign
+ends read hear write =
+    made read hear write (ours .judge) (ours .repeat) (ours .forecast) (ours .holds) (ours .power) (ours .receive) (ours .step) (ours .clear) (ours .reply)
+    (ours .copy)
+
+-- but for judging and the repeater
+abbrev pub plans : (judge : List ℕ → Told) → (repeat : List ℕ → ℕ → ℕ → List ℕ → List ℕ) → Calls Sign
+plans judge repeat =
+    made (ours .read) (ours .hear) (ours .write) judge repeat (ours .forecast) (ours .holds) (ours .power) (ours .receive) (ours .step) (ours .clear)
+    (ours .reply)
+    (ours .copy)
+
+-- but for the forecast and the calls on a record, which may be another
+abbrev pub works : {R : Type 0} → (forecast : List ℕ → ℕ → ℕ → Told) → (holds : R → Sign) → (power : R) → (receive : R → ℕ → List ℕ → Heard R)
+    → (step clear : R → Next R)
+    → (reply : R → ℕ → Bool → List ℕ → Wrote)
+    → (copy : R → List ℕ → Wrote)
+    → Calls R
+works = made (ours .read) (ours .hear) (ours .write) (ours .judge) (ours .repeat)
+
+-- but for one call
 abbrev pub reading : (ℕ → List ℕ → Told) → Calls Sign
 reading f = ends f (ours .hear) (ours .write)
 
@@ -256,16 +236,36 @@ deaf =
     receiving
     (λ s mid b. when (eqb (s .run .len) 0 and eqb (ours .read mid b .number) 5) (ours .receive s (getD b 0 0) b) (ours .receive s mid b))
 
--- a sign that refuses a packet out of order
+-- a sign that refuses a packet out of order, but for one of the number just completed
 abbrev pub inOrder : Sign → Reading → Heard Sign → Heard Sign
 inOrder s (Normal id total position len) h =
-    when (eqb position (when (beginsOf (collectedOf s) id) 0 (heldOf (s .slots .lens)))) h (stays s (no 13))
+    when (eqb id (s .last) or eqb position (when (beginsOf (collectedOf s) id) 0 (heldOf (s .slots .lens)))) h (stays s (no 13))
 inOrder s Query h = h
 inOrder s Reset h = h
 inOrder s (Refused n) h = h
 
 abbrev pub orderly : Calls Sign
 orderly = receiving (λ s mid b. inOrder s (readOf mid b) (ours .receive s mid b))
+
+-- a sign that answers all but normal packets with a number of its own, a query and a reset too
+abbrev pub surlyTo : Sign → Reading → Heard Sign → Heard Sign
+surlyTo s (Normal id total position len) h = h
+surlyTo s Query h = stays s (no 99)
+surlyTo s Reset h = stays s (no 99)
+surlyTo s (Refused n) h = stays s (no 99)
+
+abbrev pub surly : Calls Sign
+surly = receiving (λ s mid b. surlyTo s (readOf mid b) (ours .receive s mid b))
+
+-- a Ready sign that takes a query, and whatever is damaged or for another, as a reset
+abbrev pub startled : Sign → Reading → Heard Sign → Heard Sign
+startled s (Normal id total position len) h = h
+startled s Query h = stays (resetOf s) (outcomeTold ResetHeard)
+startled s Reset h = h
+startled s (Refused n) h = stays (resetOf s) (outcomeTold ResetHeard)
+
+abbrev pub jumpy : Calls Sign
+jumpy = receiving (λ s mid b. when (eqb (s .run .len) 0) (startled s (readOf mid b) (ours .receive s mid b)) (ours .receive s mid b))
 
 -- a sign whose step and reset change nothing, and say Idle and Reset
 abbrev pub frozen : Calls Sign

@@ -198,6 +198,7 @@ fn small() -> Vec<Case> {
         case("read_reply", "reading a reply", function!(read_reply), [MID, 0, 0, 0], &reply),
         case("power_on", "switching on", function!(power_on, record), [0; 4], &[]),
         case("repeat", "the repeater's question", function!(repeat), [45, 11, 0, 0], LONG),
+        case("version", "telling the version", function!(version), [0; 4], &[]),
     ]
 }
 

@@ -7,9 +7,8 @@ use crate::lent::{Lent, Work};
 pub fn alike(cases: &[Case]) -> Result<(), String> {
     for case in cases {
         let (ours, reference) = (answered(case.function.ours, case), answered(case.function.reference, case));
-        let yes = u32::from(case.function.name == "yd_repeat");
         let own = case.function.record.map_or(0, |record| answered(record, case).0);
-        if ours != reference || ours.0 & 0xFF != yes || own != 0 {
+        if ours != reference || ours.0 & 0xFF != 0 || own != 0 {
             return Err(format!("{} {}: not answered alike with yes", case.name, case.size));
         }
     }

@@ -1,7 +1,7 @@
 //! What a call is lent, and the loop that makes the same call many times.
 //! The loop is one for all, so that what it costs by itself can be taken off.
 
-use reference::image::IMAGE;
+use reference::image::IMAGE_SIZE;
 use reference::sign::Sign;
 use std::hint::black_box;
 
@@ -13,7 +13,7 @@ pub const OUT: usize = 126;
 pub struct Lent {
     pub numbers: [u8; 4],
     pub bytes: Vec<u8>,
-    pub image: [u8; IMAGE],
+    pub image: [u8; IMAGE_SIZE],
     pub out: [u8; OUT],
     pub sign: Sign,
 }
@@ -21,7 +21,7 @@ pub struct Lent {
 impl Lent {
     /// These numbers and bytes, with the record of this sign.
     pub fn new(numbers: [u8; 4], bytes: &[u8], sign: Sign) -> Lent {
-        let mut image = [0; IMAGE];
+        let mut image = [0; IMAGE_SIZE];
         sign.write_image(&mut image);
         Lent { numbers, bytes: bytes.to_vec(), image, out: [0; OUT], sign }
     }

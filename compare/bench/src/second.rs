@@ -30,6 +30,7 @@ calls! {
     reply(l: &l.image, l.numbers[0], l.numbers[1], &mut l.out);
     copy_body(l: &l.image, &mut l.out);
     repeat(l: &l.bytes, l.numbers[0].into(), l.numbers[1].into());
+    version(_l:);
 }
 
 /// The calls on the reference's own record: 0 is yes, 1 is no.

@@ -59,7 +59,7 @@ fn print_prices(prices: &[Price]) {
     println!("|---|---:|---:|---:|---:|---:|");
     for Price { case, ours, reference, record } in prices {
         let record = record.map_or("-".into(), |record| format!("{record:.0}"));
-        let ratio = marked(ours / reference);
+        let ratio = if *reference > 0.0 { marked(ours / reference) } else { "-".into() };
         println!("| {} | {} | {ours:.0} | {reference:.0} | {ratio} | {record} |", case.told, case.size);
     }
     println!();

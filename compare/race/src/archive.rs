@@ -1,8 +1,22 @@
-//! The calls of the archive, as its C header declares them.
+//! The calls of the archive, made in C by its own header.
 //! Answers to that header; all that is unsafe in the race is here.
 
-use crate::case::{Case, Function, Lent};
+use crate::case::{Case, Function, Lent, word};
+use crate::names::named;
 use header::*;
+use reference::calls::RECEIVE_ANSWER_SIZE;
+
+/// Ends the race unless the header names what the race counts with, and reads the words of an answer as the race does.
+pub fn assert_header() {
+    let names = named();
+    let answer: [u8; RECEIVE_ANSWER_SIZE] = std::array::from_fn(|index| 255 - index as u8);
+    let words: [u32; RECEIVE_ANSWER_SIZE / 4] = std::array::from_fn(|index| word(&answer, index));
+    // SAFETY: each pointer is to what is alive, and of the length that is told or as long as the longest answer.
+    unsafe {
+        race_assert_names(names.as_ptr(), names.len());
+        race_assert_readers(answer.as_ptr(), words.as_ptr());
+    }
+}
 
 /// Has the archive answer a case on these lent bytes.
 pub fn call(case: &Case, lent: Lent) -> u32 {
@@ -25,16 +39,17 @@ fn call_without_image(case: &Case, lent: Lent) -> u32 {
     // SAFETY: each pointer and its length come from a slice that is alive, not null and apart from the others.
     unsafe {
         match case.function {
-            Function::ReadPacket => yd_read_packet(a, bytes, bytes_len, out, out_len),
-            Function::WriteQuery => yd_write_query(a, out, out_len),
-            Function::WriteReset => yd_write_reset(a, out, out_len),
-            Function::WritePacket => yd_write_packet(a, b, bytes, bytes_len, c, out, out_len),
-            Function::WriteTransmission => yd_write_transmission(a, b, bytes, bytes_len, out, out_len),
-            Function::WriteReply => yd_write_reply(a, b, c, d, out, out_len),
-            Function::ReadReply => yd_read_reply(a, bytes, bytes_len, out, out_len),
-            Function::Judge => yd_judge(bytes, bytes_len),
-            Function::Forecast => yd_forecast(bytes, bytes_len, a, b, out, out_len),
-            _ => yd_repeat(bytes, bytes_len, place, length),
+            Function::ReadPacket => race_read_packet(a, bytes, bytes_len, out, out_len),
+            Function::WriteQuery => race_write_query(a, out, out_len),
+            Function::WriteReset => race_write_reset(a, out, out_len),
+            Function::WritePacket => race_write_packet(a, b, bytes, bytes_len, c, out, out_len),
+            Function::WriteTransmission => race_write_transmission(a, b, bytes, bytes_len, out, out_len),
+            Function::WriteReply => race_write_reply(a, b, c, d, out, out_len),
+            Function::ReadReply => race_read_reply(a, bytes, bytes_len, out, out_len),
+            Function::Judge => race_judge(bytes, bytes_len),
+            Function::Forecast => race_forecast(bytes, bytes_len, a, b, out, out_len),
+            Function::Version => race_version(),
+            _ => race_repeat(bytes, bytes_len, place, length),
         }
     }
 }
@@ -47,12 +62,12 @@ fn call_with_image(case: &Case, lent: Lent) -> u32 {
     // SAFETY: each pointer and its length come from a slice that is alive, not null and apart from the others.
     unsafe {
         match case.function {
-            Function::PowerOn => yd_power_on(image, image_len),
-            Function::Reset => yd_reset(image, image_len),
-            Function::Receive => yd_receive(image, image_len, a, bytes, bytes_len, out, out_len),
-            Function::Step => yd_step(image, image_len, out, out_len),
-            Function::Reply => yd_reply(image, image_len, a, b, out, out_len),
-            _ => yd_copy_body(image, image_len, out, out_len),
+            Function::PowerOn => race_power_on(image, image_len),
+            Function::Reset => race_reset(image, image_len),
+            Function::Receive => race_receive(image, image_len, a, bytes, bytes_len, out, out_len),
+            Function::Step => race_step(image, image_len, out, out_len),
+            Function::Reply => race_reply(image, image_len, a, b, out, out_len),
+            _ => race_copy_body(image, image_len, out, out_len),
         }
     }
 }

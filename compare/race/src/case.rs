@@ -23,6 +23,7 @@ pub enum Function {
     Reply,
     CopyBody,
     Repeat,
+    Version,
 }
 
 /// What a call is named, what it takes, and the numbers that it can give, yes among them.
@@ -51,17 +52,17 @@ use Function::*;
 
 /// The shape of each call, in the order of `Function`.
 #[rustfmt::skip]
-pub const SHAPES: [Shape; 16] = [
+pub const SHAPES: [Shape; 17] = [
     shape("yd_read_packet", &["mid"], BYTES, ANSWER, false,
         &[0, 252, 1, 2, 3, 4, 5, 6, 7, 8, 9, 10, 11]),
     shape("yd_write_query", &["mid"], None, OUT, false, &[0, 34]),
     shape("yd_write_reset", &["mid"], None, OUT, false, &[0, 34]),
     shape("yd_write_packet", &["mid", "id", "position"], BODY, OUT, false, &[0, 31, 32, 33, 34]),
     shape("yd_write_transmission", &["mid", "id"], BODY, OUT, false, &[0, 31, 32, 34]),
-    shape("yd_write_reply", &["mid", "last", "busy", "sink"], None, OUT, false, &[0, 32, 34]),
+    shape("yd_write_reply", &["mid", "last", "busy", "aux"], None, OUT, false, &[0, 32, 34]),
     shape("yd_read_reply", &["mid"], BYTES, ANSWER, false, &[0, 252, 35]),
     shape("yd_judge", &[], BODY, None, false, &[0, 28, 21, 22, 23, 24, 25, 26, 27]),
-    shape("yd_forecast", &["pace", "scans"], BODY, ANSWER, false,
+    shape("yd_forecast", &["pace", "scan_setting"], BODY, ANSWER, false,
         &[0, 252, 17, 28, 21, 22, 23, 24, 25, 26, 27]),
     shape("yd_power_on", &[], None, None, true, &[0, 251]),
     shape("yd_reset", &[], None, None, true, &[0, 251, 16]),
@@ -70,7 +71,8 @@ pub const SHAPES: [Shape; 16] = [
     shape("yd_step", &[], None, ANSWER, true, &[0, 251, 16, 252]),
     shape("yd_reply", &["mid", "aux"], None, OUT, true, &[0, 251, 16, 34]),
     shape("yd_copy_body", &[], None, OUT, true, &[0, 251, 16, 34]),
-    shape("yd_repeat", &["place", "length"], BODY, None, false, &[]),
+    shape("yd_repeat", &["place", "length"], BODY, None, false, &[0]),
+    shape("yd_version", &[], None, None, false, &[0]),
 ];
 
 impl Function {
@@ -145,8 +147,7 @@ impl After {
 
     /// The word of this index in the answer.
     pub fn word(&self, index: usize) -> u32 {
-        let word = self.out()[4 * index..].first_chunk().copied().unwrap_or_default();
-        u32::from_le_bytes(word)
+        word(self.out(), index)
     }
 
     /// Whether the call wrote where it was lent nothing to write.
@@ -154,6 +155,12 @@ impl After {
         let fenced = |bytes: &[u8]| bytes.starts_with(&FENCE) && bytes.ends_with(&FENCE);
         !fenced(&self.image) || !fenced(&self.out) || self.bytes != with_behind(case)
     }
+}
+
+/// The word of this index in an answer.
+pub fn word(answer: &[u8], index: usize) -> u32 {
+    let word = answer[4 * index..].first_chunk().copied().unwrap_or_default();
+    u32::from_le_bytes(word)
 }
 
 fn with_behind(case: &Case) -> Vec<u8> {
@@ -223,5 +230,6 @@ fn call_reference(case: &Case, lent: Lent) -> u32 {
         Reply => calls::reply(image, a, b, out),
         CopyBody => calls::copy_body(image, out),
         Repeat => calls::repeat(bytes, place, length),
+        Version => calls::version(),
     }
 }

@@ -5,7 +5,7 @@ use crate::case::{Case, Function};
 use crate::packets;
 use crate::racer::Racer;
 use crate::records::{packet_for, record};
-use reference::image::{AT_LENGTH, AT_LOOP_PLACE, AT_ROOM, AT_TOTAL, IMAGE};
+use reference::image::{AT_LENGTH, AT_LOOP_PLACE, AT_ROOM, AT_TOTAL, IMAGE_SIZE};
 
 /// The states that images are swept in.
 const STATES: [&str; 4] = ["Ready, collecting nothing", "Ready, collecting", "Busy outside loops", "Busy in a loop"];
@@ -37,7 +37,7 @@ impl Damage {
             }
             self.sweep_place(racer)?;
             self.place += 1;
-            if self.place == IMAGE {
+            if self.place == IMAGE_SIZE {
                 self.swept[state(&self.image)] += 1;
                 self.image.clear();
             }
@@ -72,7 +72,7 @@ impl Damage {
     }
 
     pub fn print(&self) {
-        println!("images swept with one byte changed, at each of {IMAGE} places:");
+        println!("images swept with one byte changed, at each of {IMAGE_SIZE} places:");
         for (state, swept) in STATES.iter().zip(self.swept) {
             println!("  {state}: {swept}");
         }
@@ -127,7 +127,7 @@ pub fn made_up(racer: &mut Racer) -> Option<()> {
         }
     }
     for _ in 0..4 {
-        let size = racer.random.pick(&[IMAGE, IMAGE, 0, IMAGE - 1, IMAGE + 1]);
+        let size = racer.random.pick(&[IMAGE_SIZE, IMAGE_SIZE, 0, IMAGE_SIZE - 1, IMAGE_SIZE + 1]);
         let image = racer.random.bytes(size);
         racer.call(Case::new(Function::PowerOn, &[]).image(&image))?;
     }

@@ -1,14 +1,17 @@
-//! How often calls with an image came up on ground where they can easily go wrong: images with one fault only, refusals that
-//! must come in their order, and changes of what the one room holds.
-//! Answers to the C interface's layout of an image and its order of refusals.
+//! How often calls came up on ground where they can easily go wrong: images with one fault only, refusals that must come in
+//! their order, changes of what the one room holds, settings that a forecast leaves, and stretches at an edge.
+//! Answers to the C interface's layout of an image and its order of refusals, and to 01 on the forecast and the repeater.
 
 use crate::case::{After, Case, Function, SHAPES};
 use crate::records::is_sound;
-use reference::calls::{RECEIVE_ANSWER, STEP_ANSWER};
-use reference::image::{AT_ID, AT_LAST, AT_LENGTH, AT_LENS, AT_LOOP_LEFT, AT_PLACE, AT_ROOM, AT_SINK, AT_TOTAL, IMAGE};
+use reference::calls::{RECEIVE_ANSWER_SIZE, STEP_ANSWER_SIZE};
+use reference::image::{
+    AT_ID, AT_LAST, AT_LENGTH, AT_LENS, AT_LOOP_LEFT, AT_PLACE, AT_ROOM, AT_SINK, AT_TOTAL, IMAGE_SIZE,
+};
 use reference::packet::{DATA_MOST, REPLY, read_packet};
+use reference::program::{Kind, Loop, Reader, judge};
 
-use Function::{CopyBody, Receive, Reply, Reset, Step};
+use Function::{CopyBody, Forecast, Receive, Repeat, Reply, Reset, Step};
 
 type Met = fn(&Case, &After) -> bool;
 
@@ -29,10 +32,13 @@ const BUFFERS: &[Function] = &[Reply, CopyBody];
 const RESETS: &[Function] = &[Reset, Receive];
 const PACKETS: &[Function] = &[Receive];
 const STEPS: &[Function] = &[Step];
+const FORECASTS: &[Function] = &[Forecast];
+const REPEATS: &[Function] = &[Repeat];
 
 /// What makes an image unsound by itself, then the order of refusals, then what changes the room or must leave it.
+/// Behind them a forecast's refusals, then what it leaves, then the edges of what the repeater is told.
 #[rustfmt::skip]
-const GROUNDS: [Ground; 23] = [
+const GROUNDS: [Ground; 48] = [
     ground("AUX byte over 1, all else sound", ALL, |case, _| faulty(case, right_aux)),
     ground("Busy with stray collection bytes, all else sound", ALL,
         |case, _| is_busy(case) && faulty(case, no_collection)),
@@ -69,6 +75,54 @@ const GROUNDS: [Ground; 23] = [
         |case, after| did_release_collected(case, after) && after.image()[AT_LENGTH] == 0),
     ground("last step of a program", STEPS,
         |case, after| is_busy(case) && is_no(after, 0) && after.image()[AT_LENGTH] == 0),
+
+    ground("answer of four or five words, all else right (252)", FORECASTS,
+        |case, after| is_no(after, 252) && case.out.len() >= 16 && in_range(case) && is_program(case)),
+    ground("short answer, settings out of range (252)", FORECASTS, |case, after| is_no(after, 252) && !in_range(case)),
+    ground("short answer, no program (252)", FORECASTS, |case, after| is_no(after, 252) && !is_program(case)),
+    ground("settings out of range, no program (17)", FORECASTS, |case, after| is_no(after, 17) && !is_program(case)),
+
+    ground("pace and scan setting left as given", FORECASTS,
+        |case, after| did(after, 0) && keeps(case, after) == [true, true]),
+    ground("another pace left, the given scan setting", FORECASTS,
+        |case, after| did(after, 0) && keeps(case, after) == [false, true]),
+    ground("another scan setting left, the given pace", FORECASTS,
+        |case, after| did(after, 0) && keeps(case, after) == [true, false]),
+    ground("another pace and scan setting left", FORECASTS,
+        |case, after| did(after, 0) && keeps(case, after) == [false, false]),
+    ground("pace last set in a loop of one pass", FORECASTS,
+        |case, after| did(after, 0) && last_in_loop(case, Kind::P, |passes| passes == 1)),
+    ground("pace last set in a loop of several passes", FORECASTS,
+        |case, after| did(after, 0) && last_in_loop(case, Kind::P, |passes| passes > 1)),
+    ground("pace set before a loop, another in it", FORECASTS,
+        |case, after| did(after, 0) && changes(case, Kind::P, |one, other| one.is_none() && other.is_some())),
+    ground("pace set in a loop, another behind it", FORECASTS,
+        |case, after| did(after, 0) && changes(case, Kind::P, |one, other| one.is_some() && other.is_none())),
+    ground("pace set in a loop, another in the same loop", FORECASTS,
+        |case, after| did(after, 0) && changes(case, Kind::P, |one, other| one.is_some() && one == other)),
+    ground("pace set in an endless program", FORECASTS, |case, after| did(after, 1) && !sets(case, Kind::P).is_empty()),
+    ground("scan setting last set in a loop of one pass", FORECASTS,
+        |case, after| did(after, 0) && last_in_loop(case, Kind::Equals, |passes| passes == 1)),
+    ground("scan setting last set in a loop of several passes", FORECASTS,
+        |case, after| did(after, 0) && last_in_loop(case, Kind::Equals, |passes| passes > 1)),
+    ground("scan setting set before a loop, another in it", FORECASTS,
+        |case, after| did(after, 0) && changes(case, Kind::Equals, |one, other| one.is_none() && other.is_some())),
+    ground("scan setting set in a loop, another behind it", FORECASTS,
+        |case, after| did(after, 0) && changes(case, Kind::Equals, |one, other| one.is_some() && other.is_none())),
+    ground("scan setting set in a loop, another in the same loop", FORECASTS,
+        |case, after| did(after, 0) && changes(case, Kind::Equals, |one, other| one.is_some() && one == other)),
+    ground("scan setting set in an endless program", FORECASTS,
+        |case, after| did(after, 1) && !sets(case, Kind::Equals).is_empty()),
+
+    ground("place 0, the stretch within the body", REPEATS,
+        |case, _| place(case) == 0 && length(case) <= case.bytes.len()),
+    ground("stretch up to the body's last byte", REPEATS,
+        |case, _| place(case) > 0 && length(case) > 0 && end(case) == Some(case.bytes.len())),
+    ground("empty stretch right behind the body", REPEATS,
+        |case, _| place(case) > 0 && length(case) == 0 && end(case) == Some(case.bytes.len())),
+    ground("stretch one byte over the body's end", REPEATS,
+        |case, _| place(case) > 0 && length(case) > 0 && end(case) == Some(case.bytes.len() + 1)),
+    ground("place and length with too large a sum", REPEATS, |case, _| end(case).is_none()),
 ];
 
 fn is_no(after: &After, no: u32) -> bool {
@@ -90,18 +144,18 @@ fn did_release_collected(case: &Case, after: &After) -> bool {
 }
 
 fn is_busy(case: &Case) -> bool {
-    case.image.len() == IMAGE && case.image[AT_LENGTH] != 0
+    case.image.len() == IMAGE_SIZE && case.image[AT_LENGTH] != 0
 }
 
 fn collects(case: &Case) -> bool {
-    case.image.len() == IMAGE && case.image[AT_TOTAL] != 0
+    case.image.len() == IMAGE_SIZE && case.image[AT_TOTAL] != 0
 }
 
 /// Whether the call would be refused for what it was lent to write in.
 fn is_short(case: &Case) -> bool {
     let needed = match case.function {
-        Receive => RECEIVE_ANSWER,
-        Step => STEP_ANSWER,
+        Receive => RECEIVE_ANSWER_SIZE,
+        Step => STEP_ANSWER_SIZE,
         Reply => REPLY,
         _ => case.image.get(AT_LENGTH).map_or(0, |&length| length.into()),
     };
@@ -112,9 +166,65 @@ fn is_wrong_packet(case: &Case) -> bool {
     read_packet(case.numbers[0] as u8, &case.bytes).is_err()
 }
 
+/// Whether a forecast is asked from settings that there are.
+fn in_range(case: &Case) -> bool {
+    let [pace, scans, ..] = case.numbers;
+    (1..=20).contains(&pace) && (1..=6).contains(&scans)
+}
+
+fn is_program(case: &Case) -> bool {
+    judge(&case.bytes).is_ok()
+}
+
+/// Whether the pace and the scan setting that a forecast tells are the given ones.
+fn keeps(case: &Case, after: &After) -> [bool; 2] {
+    let [pace, scans, ..] = case.numbers;
+    [after.word(4) as usize == pace, after.word(5) as usize == scans]
+}
+
+/// The numbers of the commands of this kind in a program, each with the loop around it.
+fn sets(case: &Case, kind: Kind) -> Vec<(u8, Option<Loop>)> {
+    let mut sets = Vec::new();
+    let Ok(mut reader) = Reader::begin(&case.bytes) else {
+        return sets;
+    };
+    let mut around = reader.open();
+    while let Ok(Some(command)) = reader.next_command() {
+        if command.kind == kind {
+            sets.push((command.number, around));
+        }
+        around = reader.open();
+    }
+    sets
+}
+
+/// Whether the last command of this kind stands in a loop of so many passes.
+fn last_in_loop(case: &Case, kind: Kind, passes: fn(u8) -> bool) -> bool {
+    let last = sets(case, kind).pop();
+    last.and_then(|(_, around)| around).is_some_and(|around| passes(around.number))
+}
+
+/// Whether a command of this kind and the next one set something else, and stand in such loops or none.
+fn changes(case: &Case, kind: Kind, loops: fn(Option<Loop>, Option<Loop>) -> bool) -> bool {
+    sets(case, kind).windows(2).any(|pair| pair[0].0 != pair[1].0 && loops(pair[0].1, pair[1].1))
+}
+
+fn place(case: &Case) -> usize {
+    case.numbers[0]
+}
+
+fn length(case: &Case) -> usize {
+    case.numbers[1]
+}
+
+/// The place behind a stretch, if there is one.
+fn end(case: &Case) -> Option<usize> {
+    place(case).checked_add(length(case))
+}
+
 /// Whether this is all that is wrong with the image: it is unsound, and sound once mended.
 fn faulty(case: &Case, mend: fn(&mut [u8])) -> bool {
-    if case.image.len() != IMAGE || is_sound(&case.image) {
+    if case.image.len() != IMAGE_SIZE || is_sound(&case.image) {
         return false;
     }
     let mut mended = case.image.clone();
@@ -171,7 +281,7 @@ impl Grounds {
     }
 
     pub fn print(&self) {
-        println!("calls with an image, by what they met:");
+        println!("calls by what they met:");
         for (ground, counts) in GROUNDS.iter().zip(&self.0) {
             let of = |function: &Function| format!("{} {}", function.shape().name, counts[*function as usize]);
             println!("  {}: {}", ground.name, ground.functions.iter().map(of).collect::<Vec<_>>().join(", "));

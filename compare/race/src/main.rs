@@ -6,6 +6,7 @@ mod bodies;
 mod case;
 mod damage;
 mod ground;
+mod names;
 mod packets;
 mod racer;
 mod random;
@@ -34,6 +35,7 @@ fn main() -> ExitCode {
         eprintln!("race [seed [calls [trace]]]");
         return ExitCode::from(2);
     };
+    archive::assert_header();
     println!("race: seed {seed}, {calls} calls to come");
     let mut racer = Racer::new(seed, calls, arguments.next().is_some_and(|word| word == "trace"));
     let mut damage = Damage::default();
@@ -51,6 +53,7 @@ fn round(racer: &mut Racer, damage: &mut Damage, reached: &mut Vec<Vec<u8>>) -> 
     wire::judge(racer)?;
     wire::forecast(racer)?;
     wire::repeat(racer)?;
+    wire::version(racer)?;
     ride::ride(racer, reached)?;
     damage.sweep(racer, reached)?;
     damage::made_up(racer)?;

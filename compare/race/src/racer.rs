@@ -5,10 +5,12 @@ use crate::case::{After, Case, Function, by_archive, by_reference};
 use crate::random::Random;
 use crate::shrink::shrink;
 use crate::tally::Tally;
-use reference::calls::{FORECAST_ANSWER, HEARD_ANSWER, READ_ANSWER, RECEIVE_ANSWER, STEP_ANSWER};
+use reference::calls::{
+    FORECAST_ANSWER_SIZE, PACKET_ANSWER_SIZE, RECEIVE_ANSWER_SIZE, REPLY_ANSWER_SIZE, STEP_ANSWER_SIZE,
+};
 use reference::image::{
     AT_BRIGHT, AT_DIM, AT_ID, AT_LAST, AT_LENGTH, AT_LENS, AT_LOOP_LEFT, AT_LOOP_PLACE, AT_PACE, AT_PLACE, AT_ROOM,
-    AT_SCANS, AT_SINK, AT_TOTAL, IMAGE,
+    AT_SCANS, AT_SINK, AT_TOTAL, IMAGE_SIZE,
 };
 use std::fmt::Write;
 
@@ -73,11 +75,11 @@ impl Racer {
     /// The answer buffer of a call.
     pub fn answer(&mut self, function: Function) -> Vec<u8> {
         let needed = match function {
-            Function::ReadPacket => READ_ANSWER,
-            Function::ReadReply => HEARD_ANSWER,
-            Function::Forecast => FORECAST_ANSWER,
-            Function::Receive => RECEIVE_ANSWER,
-            Function::Step => STEP_ANSWER,
+            Function::ReadPacket => PACKET_ANSWER_SIZE,
+            Function::ReadReply => REPLY_ANSWER_SIZE,
+            Function::Forecast => FORECAST_ANSWER_SIZE,
+            Function::Receive => RECEIVE_ANSWER_SIZE,
+            Function::Step => STEP_ANSWER_SIZE,
             _ => 0,
         };
         if self.random.chance(80) {
@@ -122,7 +124,7 @@ fn inputs(case: &Case) -> String {
 
 /// The fields of an image in words, as they stand there, sound or not.
 fn fields(image: &[u8]) -> String {
-    if image.len() != IMAGE {
+    if image.len() != IMAGE_SIZE {
         return String::new();
     }
     let lens = &image[AT_LENS..AT_ROOM];

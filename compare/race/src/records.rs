@@ -6,14 +6,14 @@ use crate::packets::frame;
 use crate::random::Random;
 use reference::image::{
     AT_BRIGHT, AT_DIM, AT_ID, AT_LAST, AT_LENGTH, AT_LENS, AT_LOOP_LEFT, AT_LOOP_PLACE, AT_PACE, AT_PLACE, AT_ROOM,
-    AT_SCANS, AT_SINK, AT_TOTAL, IMAGE,
+    AT_SCANS, AT_SINK, AT_TOTAL, IMAGE_SIZE,
 };
 use reference::packet::{BODY_MOST, DATA_MOST, TOTAL_MOST};
 use reference::sign::Sign;
 
 /// Whether an image is one of a sound record; bytes of another size are none.
 pub fn is_sound(image: &[u8]) -> bool {
-    let image = <&[u8; IMAGE]>::try_from(image);
+    let image = <&[u8; IMAGE_SIZE]>::try_from(image);
     image.is_ok_and(|image| Sign::from_image(image).is_sound())
 }
 
@@ -35,7 +35,7 @@ fn disturbed(random: &mut Random) -> Vec<u8> {
 
 /// An image of a record that is sound more often than not.
 pub fn record(random: &mut Random) -> Vec<u8> {
-    let mut image = vec![0; IMAGE];
+    let mut image = vec![0; IMAGE_SIZE];
     let id = random.below(0x40) as u8;
     image[AT_LAST] = random.pick(&[0x41, 0, 0x3F, id, id]);
     set_settings(random, &mut image);
@@ -134,7 +134,7 @@ fn disturb(random: &mut Random, image: &mut [u8]) {
         9 => image[AT_SINK] = random.pick(&[2, 3, 0x80, 0xFE, 0xFF]),
         _ => {
             for _ in 0..2 {
-                let at = random.below(IMAGE);
+                let at = random.below(IMAGE_SIZE);
                 image[at] = random.byte();
             }
         }

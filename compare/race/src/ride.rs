@@ -7,7 +7,7 @@ use crate::packets;
 use crate::racer::Racer;
 use crate::records::packet_for;
 use crate::sizes::WITH_IMAGE;
-use reference::image::{AT_LENGTH, IMAGE};
+use reference::image::{AT_LENGTH, IMAGE_SIZE};
 
 /// A sign under way, and the packets around it.
 struct Ride {
@@ -22,7 +22,7 @@ struct Ride {
 
 /// Lets a sign ride from power-on, and keeps some of the images that it comes through.
 pub fn ride(racer: &mut Racer, reached: &mut Vec<Vec<u8>>) -> Option<()> {
-    let image = racer.random.bytes(IMAGE);
+    let image = racer.random.bytes(IMAGE_SIZE);
     let mid = racer.random.byte();
     let image = racer.call(Case::new(Function::PowerOn, &[]).image(&image))?.image().to_vec();
     let mut ride = Ride { image, mid, id: racer.random.byte() & 0x3F, coming: Vec::new(), around: Vec::new() };
@@ -166,8 +166,8 @@ impl Ride {
 
     /// A call on an image of the wrong size.
     fn refused(&mut self, racer: &mut Racer) -> Option<()> {
-        let size = racer.random.pick(&[0, 1, IMAGE - 1, IMAGE + 1, IMAGE + 14]);
-        let any = racer.random.below(IMAGE + 20);
+        let size = racer.random.pick(&[0, 1, IMAGE_SIZE - 1, IMAGE_SIZE + 1, IMAGE_SIZE + 14]);
+        let any = racer.random.below(IMAGE_SIZE + 20);
         let mut image = self.image.clone();
         image.resize(racer.random.pick(&[size, any]), 0);
         for function in WITH_IMAGE {

@@ -3,7 +3,7 @@
 
 use crate::case::{Case, Function, differ};
 use crate::packets::mend;
-use reference::image::{AT_ID, AT_LENGTH, AT_LOOP_LEFT, AT_LOOP_PLACE, AT_PLACE, AT_ROOM, IMAGE};
+use reference::image::{AT_ID, AT_LENGTH, AT_LOOP_LEFT, AT_LOOP_PLACE, AT_PLACE, AT_ROOM, IMAGE_SIZE};
 
 /// The smallest case that single simplifications lead to.
 pub fn shrink(mut case: Case) -> Case {
@@ -36,8 +36,8 @@ fn weight(case: &Case) -> (usize, usize, usize, usize) {
     (lengths, changed + filled, numbers, sum)
 }
 
-fn power_on_image() -> [u8; IMAGE] {
-    let mut image = [0; IMAGE];
+fn power_on_image() -> [u8; IMAGE_SIZE] {
+    let mut image = [0; IMAGE_SIZE];
     reference::sign::Sign::power_on().write_image(&mut image);
     image
 }
@@ -109,7 +109,7 @@ fn simpler_numbers(case: &Case, candidates: &mut Vec<Case>) {
 }
 
 fn simpler_image(case: &Case, candidates: &mut Vec<Case>) {
-    if case.image.len() != IMAGE {
+    if case.image.len() != IMAGE_SIZE {
         for (start, end) in stretches(case.image.len()) {
             candidates.push(case.clone().image(&[&case.image[..start], &case.image[end..]].concat()));
         }

@@ -6,7 +6,7 @@ use crate::case::{Case, Function};
 use crate::packets;
 use crate::racer::Racer;
 use crate::records::{packet_for, record, sound, unsound};
-use reference::image::IMAGE;
+use reference::image::IMAGE_SIZE;
 
 /// How far the sizes go beyond what any call needs.
 const MORE: usize = 24;
@@ -50,7 +50,7 @@ pub fn buffers(racer: &mut Racer) -> Option<()> {
 
 /// Each call that is lent an image, with every size up to more than it needs, and an answer that is enough or is not.
 pub fn images(racer: &mut Racer) -> Option<()> {
-    for size in 0..=IMAGE + MORE {
+    for size in 0..=IMAGE_SIZE + MORE {
         let mut image = record(&mut racer.random);
         image.resize(size, 0);
         let packet = packets::whole(&mut racer.random, 0x80);

@@ -29,7 +29,7 @@ fn value(after: &After) -> Option<u32> {
 }
 
 #[rustfmt::skip]
-const GROUPS: [Group; 10] = [
+const GROUPS: [Group; 12] = [
     Group { name: "yd_read_packet, what", function: Function::ReadPacket, read: first_word, expected: &[1, 2, 3] },
     Group { name: "yd_read_reply, Busy", function: Function::ReadReply,
         read: |after| yes(after).then(|| after.word(1)), expected: &[0, 1] },
@@ -37,6 +37,11 @@ const GROUPS: [Group; 10] = [
         read: |after| yes(after).then(|| after.word(2)), expected: &[0, 1] },
     Group { name: "yd_judge, endless", function: Function::Judge, read: value, expected: &[0, 1] },
     Group { name: "yd_forecast, endless", function: Function::Forecast, read: first_word, expected: &[0, 1] },
+    Group { name: "yd_forecast, pace left, 0 if endless", function: Function::Forecast,
+        read: |after| yes(after).then(|| after.word(4)),
+        expected: &[0, 1, 2, 3, 4, 5, 6, 7, 8, 9, 10, 11, 12, 13, 14, 15, 16, 17, 18, 19, 20] },
+    Group { name: "yd_forecast, scan setting left, 0 if endless", function: Function::Forecast,
+        read: |after| yes(after).then(|| after.word(5)), expected: &[0, 1, 2, 3, 4, 5, 6] },
     Group { name: "yd_receive, outcome", function: Function::Receive, read: first_word, expected: &[1, 2, 3, 4, 5] },
     Group { name: "yd_receive, number of a released body", function: Function::Receive, read: released,
         expected: &[0, 21, 22, 23, 24, 25, 26, 27] },
@@ -44,8 +49,7 @@ const GROUPS: [Group; 10] = [
         expected: &[0, 1, 2, 3, 4, 5, 6, 7, 8, 9, 10, 11, 12, 13, 14, 15, 16] },
     Group { name: "yd_write_packet, packets in full or not", function: Function::WritePacket,
         read: |after| value(after).map(|length| u32::from(length == 21)), expected: &[0, 1] },
-    Group { name: "yd_repeat, shows the stretch", function: Function::Repeat, read: |after| Some(after.result),
-        expected: &[0, 1] },
+    Group { name: "yd_repeat, shows the stretch", function: Function::Repeat, read: value, expected: &[0, 1] },
 ];
 
 const VALUES: usize = 256;
@@ -71,9 +75,7 @@ impl Tally {
     pub fn count(&mut self, case: &Case, after: &After) {
         let function = case.function as usize;
         self.calls[function] += 1;
-        if !SHAPES[function].noes.is_empty() {
-            self.noes[function][(after.result & 0xFF) as usize] += 1;
-        }
+        self.noes[function][(after.result & 0xFF) as usize] += 1;
         for (group, counts) in GROUPS.iter().zip(&mut self.groups) {
             if group.function == case.function
                 && let Some(value) = (group.read)(after)

@@ -1,4 +1,4 @@
-//! Rounds of calls without a record: the readers and writers of the wire, judge, forecast and the repeater.
+//! Rounds of calls without a record: the readers and writers of the wire, judge, forecast, the repeater and the version.
 //! Answers to 01, "The packet", "The program" and the forecast.
 
 use crate::bodies;
@@ -106,3 +106,8 @@ pub fn repeat(racer: &mut Racer) -> Option<()> {
 }
 
 const FAR: usize = usize::MAX;
+
+/// The version, which nothing can change.
+pub fn version(racer: &mut Racer) -> Option<()> {
+    racer.call(Case::new(Function::Version, &[])).map(drop)
+}

@@ -2,7 +2,7 @@
 //! Answers to that interface: its results, its answers in words, and its numbers 251 and 252. A call that takes an image
 //! says 251 first, then 16, then 252, then the rest; one without says 252 first.
 
-use crate::image::IMAGE;
+use crate::image::IMAGE_SIZE;
 use crate::machine::{Forecast, Step, forecast as forecast_of};
 use crate::no::{No, Refusal};
 use crate::packet::{self, Packet, Reply};
@@ -10,18 +10,21 @@ use crate::program;
 use crate::sign::{Received, Released, Sign, stretch};
 
 /// The sizes of the answers.
-pub const READ_ANSWER: usize = 20;
-pub const HEARD_ANSWER: usize = 12;
-pub const FORECAST_ANSWER: usize = 16;
-pub const RECEIVE_ANSWER: usize = 100;
-pub const STEP_ANSWER: usize = 28;
+pub const PACKET_ANSWER_SIZE: usize = 20;
+pub const REPLY_ANSWER_SIZE: usize = 12;
+pub const FORECAST_ANSWER_SIZE: usize = 24;
+pub const RECEIVE_ANSWER_SIZE: usize = 100;
+pub const STEP_ANSWER_SIZE: usize = 28;
 
 /// Where a released body stands in its answer.
-pub const AT_RELEASED: usize = 16;
+pub const RECEIVE_BODY_OFFSET: usize = 16;
+
+/// The version of the interface: major, minor, patch.
+const VERSION: [usize; 3] = [1, 0, 0];
 
 /// The numbers that only this interface has.
-pub const IMAGE_SIZE: u32 = 251;
-pub const ANSWER_SHORT: u32 = 252;
+pub const NO_IMAGE_SIZE: u32 = 251;
+pub const NO_ANSWER_SHORT: u32 = 252;
 
 const YES: u32 = 0;
 
@@ -43,7 +46,7 @@ fn written(result: Result<usize, No>) -> u32 {
 
 /// The no to an answer that is too short for a record's call: an unsound record is told first.
 fn too_short(sign: &Sign) -> u32 {
-    if sign.is_sound() { ANSWER_SHORT } else { No::Unsound as u32 }
+    if sign.is_sound() { NO_ANSWER_SHORT } else { No::Unsound as u32 }
 }
 
 /// Lays words at the front of an answer, lowest byte first.
@@ -54,8 +57,8 @@ fn lay_words(words: &[u32], answer: &mut [u8]) {
 }
 
 pub fn read_packet(mid: u8, bytes: &[u8], answer: &mut [u8]) -> u32 {
-    let Some(answer) = answer.first_chunk_mut::<READ_ANSWER>() else {
-        return ANSWER_SHORT;
+    let Some(answer) = answer.first_chunk_mut::<PACKET_ANSWER_SIZE>() else {
+        return NO_ANSWER_SHORT;
     };
     let words = match packet::read_packet(mid, bytes) {
         Err(no) => return no as u32,
@@ -86,14 +89,14 @@ pub fn write_transmission(mid: u8, id: u8, body: &[u8], out: &mut [u8]) -> u32 {
     written(packet::write_transmission(mid, id, body, out))
 }
 
-pub fn write_reply(mid: u8, last: u8, busy: u8, sink: u8, out: &mut [u8]) -> u32 {
-    let reply = Reply { last, busy: busy != 0, sink: sink != 0 };
+pub fn write_reply(mid: u8, last: u8, busy: u8, aux: u8, out: &mut [u8]) -> u32 {
+    let reply = Reply { last, busy: busy != 0, sink: aux != 0 };
     written(packet::write_reply(mid, reply, out))
 }
 
 pub fn read_reply(mid: u8, bytes: &[u8], answer: &mut [u8]) -> u32 {
-    let Some(answer) = answer.first_chunk_mut::<HEARD_ANSWER>() else {
-        return ANSWER_SHORT;
+    let Some(answer) = answer.first_chunk_mut::<REPLY_ANSWER_SIZE>() else {
+        return NO_ANSWER_SHORT;
     };
     match packet::read_reply(mid, bytes) {
         Err(no) => no as u32,
@@ -111,30 +114,32 @@ pub fn judge(body: &[u8]) -> u32 {
     }
 }
 
-pub fn forecast(body: &[u8], pace: u8, scans: u8, answer: &mut [u8]) -> u32 {
-    let Some(answer) = answer.first_chunk_mut::<FORECAST_ANSWER>() else {
-        return ANSWER_SHORT;
+pub fn forecast(body: &[u8], pace: u8, scan_setting: u8, answer: &mut [u8]) -> u32 {
+    let Some(answer) = answer.first_chunk_mut::<FORECAST_ANSWER_SIZE>() else {
+        return NO_ANSWER_SHORT;
     };
-    let words = match forecast_of(body, pace, scans) {
+    let words = match forecast_of(body, pace, scan_setting) {
         Err(refusal) => return refused(refusal),
-        Ok(Forecast::Endless) => [1, 0, 0, 0],
-        Ok(Forecast::Ends(totals)) => [0, totals.steps, totals.scans, totals.milliseconds],
+        Ok(Forecast::Endless) => [1, 0, 0, 0, 0, 0],
+        Ok(Forecast::Ends { totals, pace, scans }) => {
+            [0, totals.steps, totals.scans, totals.milliseconds, pace.into(), scans.into()]
+        }
     };
     lay_words(&words, answer);
     YES
 }
 
 pub fn power_on(image: &mut [u8]) -> u32 {
-    let Ok(image) = <&mut [u8; IMAGE]>::try_from(image) else {
-        return IMAGE_SIZE;
+    let Ok(image) = <&mut [u8; IMAGE_SIZE]>::try_from(image) else {
+        return NO_IMAGE_SIZE;
     };
     Sign::power_on().write_image(image);
     YES
 }
 
 pub fn reset(image: &mut [u8]) -> u32 {
-    let Ok(image) = <&mut [u8; IMAGE]>::try_from(image) else {
-        return IMAGE_SIZE;
+    let Ok(image) = <&mut [u8; IMAGE_SIZE]>::try_from(image) else {
+        return NO_IMAGE_SIZE;
     };
     let mut sign = Sign::from_image(image);
     match sign.reset() {
@@ -147,11 +152,11 @@ pub fn reset(image: &mut [u8]) -> u32 {
 }
 
 pub fn receive(image: &mut [u8], mid: u8, bytes: &[u8], answer: &mut [u8]) -> u32 {
-    let Ok(image) = <&mut [u8; IMAGE]>::try_from(image) else {
-        return IMAGE_SIZE;
+    let Ok(image) = <&mut [u8; IMAGE_SIZE]>::try_from(image) else {
+        return NO_IMAGE_SIZE;
     };
     let mut sign = Sign::from_image(image);
-    let Some(answer) = answer.first_chunk_mut::<RECEIVE_ANSWER>() else {
+    let Some(answer) = answer.first_chunk_mut::<RECEIVE_ANSWER_SIZE>() else {
         return too_short(&sign);
     };
     match sign.receive(mid, bytes) {
@@ -164,7 +169,7 @@ pub fn receive(image: &mut [u8], mid: u8, bytes: &[u8], answer: &mut [u8]) -> u3
     }
 }
 
-fn lay_received(received: &Received, answer: &mut [u8; RECEIVE_ANSWER]) {
+fn lay_received(received: &Received, answer: &mut [u8; RECEIVE_ANSWER_SIZE]) {
     let outcome = match received {
         Received::Query => 1,
         Received::Reset => 2,
@@ -172,25 +177,25 @@ fn lay_received(received: &Received, answer: &mut [u8; RECEIVE_ANSWER]) {
         Received::Stored => 4,
         Received::Released(released) => return lay_released(released, answer),
     };
-    *answer = [0; RECEIVE_ANSWER];
+    *answer = [0; RECEIVE_ANSWER_SIZE];
     answer[0] = outcome;
 }
 
-fn lay_released(released: &Released, answer: &mut [u8; RECEIVE_ANSWER]) {
+fn lay_released(released: &Released, answer: &mut [u8; RECEIVE_ANSWER_SIZE]) {
     let (no, place) = match released.refusal {
         None => (0, 0),
         Some(refusal) => (refusal.no as u32, refusal.place.into()),
     };
     lay_words(&[5, no, place, released.length.into()], answer);
-    answer[AT_RELEASED..].copy_from_slice(&released.body);
+    answer[RECEIVE_BODY_OFFSET..].copy_from_slice(&released.body);
 }
 
 pub fn step(image: &mut [u8], answer: &mut [u8]) -> u32 {
-    let Ok(image) = <&mut [u8; IMAGE]>::try_from(image) else {
-        return IMAGE_SIZE;
+    let Ok(image) = <&mut [u8; IMAGE_SIZE]>::try_from(image) else {
+        return NO_IMAGE_SIZE;
     };
     let mut sign = Sign::from_image(image);
-    let Some(answer) = answer.first_chunk_mut::<STEP_ANSWER>() else {
+    let Some(answer) = answer.first_chunk_mut::<STEP_ANSWER_SIZE>() else {
         return too_short(&sign);
     };
     match sign.step() {
@@ -209,19 +214,24 @@ fn step_words(step: &Step) -> [u32; 7] {
 }
 
 pub fn reply(image: &[u8], mid: u8, aux: u8, out: &mut [u8]) -> u32 {
-    match <&[u8; IMAGE]>::try_from(image) {
-        Err(_) => IMAGE_SIZE,
+    match <&[u8; IMAGE_SIZE]>::try_from(image) {
+        Err(_) => NO_IMAGE_SIZE,
         Ok(image) => written(Sign::from_image(image).reply(mid, aux != 0, out)),
     }
 }
 
 pub fn copy_body(image: &[u8], out: &mut [u8]) -> u32 {
-    match <&[u8; IMAGE]>::try_from(image) {
-        Err(_) => IMAGE_SIZE,
+    match <&[u8; IMAGE_SIZE]>::try_from(image) {
+        Err(_) => NO_IMAGE_SIZE,
         Ok(image) => written(Sign::from_image(image).copy_body(out)),
     }
 }
 
 pub fn repeat(body: &[u8], place: usize, length: usize) -> u32 {
-    stretch(body, place, length).is_some().into()
+    yes(stretch(body, place, length).is_some().into())
+}
+
+pub fn version() -> u32 {
+    let [major, minor, patch] = VERSION;
+    yes(major * 65536 + minor * 256 + patch)
 }

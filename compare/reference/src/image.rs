@@ -7,7 +7,7 @@ use crate::packet::BODY_MOST;
 use crate::sign::Sign;
 
 /// The size of an image, and where its parts stand.
-pub const IMAGE: usize = 102;
+pub const IMAGE_SIZE: usize = 102;
 pub const AT_LAST: usize = 0;
 pub const AT_ID: usize = 1;
 pub const AT_TOTAL: usize = 2;
@@ -24,13 +24,13 @@ pub const AT_DIM: usize = 100;
 pub const AT_BRIGHT: usize = 101;
 
 /// The `COUNT` bytes of an image that stand at this place.
-fn part<const COUNT: usize>(image: &[u8; IMAGE], at: usize) -> [u8; COUNT] {
+fn part<const COUNT: usize>(image: &[u8; IMAGE_SIZE], at: usize) -> [u8; COUNT] {
     std::array::from_fn(|index| image[at + index])
 }
 
 impl Sign {
     /// The record that an image shows, sound or not.
-    pub fn from_image(image: &[u8; IMAGE]) -> Sign {
+    pub fn from_image(image: &[u8; IMAGE_SIZE]) -> Sign {
         let mut sign = Sign {
             last: image[AT_LAST],
             id: image[AT_ID],
@@ -54,7 +54,7 @@ impl Sign {
     }
 
     /// Writes the image of a sound record, whose room holds the body of a Busy sign or the packets of a Ready one.
-    pub fn write_image(&self, image: &mut [u8; IMAGE]) {
+    pub fn write_image(&self, image: &mut [u8; IMAGE_SIZE]) {
         image[AT_LAST] = self.last;
         image[AT_ID] = self.id;
         image[AT_TOTAL] = self.total;

@@ -165,11 +165,11 @@ impl Totals {
     }
 }
 
-/// How long a program runs.
+/// How long a program runs, and the pace and scan setting behind its last step.
 #[derive(Clone, Copy, Debug, PartialEq, Eq)]
 pub enum Forecast {
     Endless,
-    Ends(Totals),
+    Ends { totals: Totals, pace: u8, scans: u8 },
 }
 
 /// How things stood when a loop was entered.
@@ -180,7 +180,7 @@ struct Entry {
     settings: Settings,
 }
 
-/// How long a body runs from this pace and scan setting.
+/// How long a body runs from this pace and scan setting, and which ones it leaves.
 pub fn forecast(body: &[u8], pace: u8, scans: u8) -> Result<Forecast, Refusal> {
     if !pacing_in_range(pace, scans) {
         return Err(Refusal::at(No::Settings, 0));
@@ -202,7 +202,11 @@ pub fn forecast(body: &[u8], pace: u8, scans: u8) -> Result<Forecast, Refusal> {
             _ => {}
         }
     }
-    Ok(if reader.endless() { Forecast::Endless } else { Forecast::Ends(totals) })
+    if reader.endless() {
+        return Ok(Forecast::Endless);
+    }
+    // Every pass of a loop sets the same, so the first one, read here, left what the last one leaves.
+    Ok(Forecast::Ends { totals, pace: settings.pace, scans: settings.scans })
 }
 
 /// The totals of each pass but the first, which may have begun at another pace or scan setting.

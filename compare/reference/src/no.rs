@@ -20,19 +20,19 @@ pub enum No {
     Other = 13,
     Unsound = 16,
     Settings = 17,
-    NoCaret = 21,
+    Caret = 21,
     Unknown = 22,
     Number = 23,
     Forbidden = 24,
     Tilde = 25,
     Loop = 26,
-    BehindEnd = 27,
+    AfterEnd = 27,
     Over84 = 28,
     Body = 31,
     WriteId = 32,
     WritePosition = 33,
-    Short = 34,
-    NoReply = 35,
+    OutShort = 34,
+    Reply = 35,
 }
 
 /// A no that points into a body.

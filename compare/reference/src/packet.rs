@@ -149,7 +149,7 @@ pub fn write_transmission(mid: u8, id: u8, body: &[u8], out: &mut [u8]) -> Resul
     let total = packet_total(body)?;
     check_write_id(id)?;
     let length = body.len() + FRAME * usize::from(total);
-    let mut rest = out.get_mut(..length).ok_or(No::Short)?;
+    let mut rest = out.get_mut(..length).ok_or(No::OutShort)?;
     for (position, data) in (0..total).zip(body.chunks(DATA_MOST)) {
         let written = lay(mid, id, total << 4 | position, data, rest)?;
         rest = &mut rest[written..];
@@ -173,7 +173,7 @@ fn check_write_id(id: u8) -> Result<(), No> {
 /// Lays a packet of these fields at the front of `out`, for data that fit a packet.
 fn lay(mid: u8, id: u8, fifth: u8, data: &[u8], out: &mut [u8]) -> Result<usize, No> {
     let length = FRAME + data.len();
-    let packet = out.get_mut(..length).ok_or(No::Short)?;
+    let packet = out.get_mut(..length).ok_or(No::OutShort)?;
     packet[..5].copy_from_slice(&[mid, SECOND, length as u8, id, fifth]);
     packet[5..length - 2].copy_from_slice(data);
     packet[length - 2] = 0;
@@ -186,7 +186,7 @@ pub fn write_reply(mid: u8, reply: Reply, out: &mut [u8]) -> Result<usize, No> {
     if !can_be_last(reply.last) {
         return Err(No::WriteId);
     }
-    let laid = out.first_chunk_mut::<REPLY>().ok_or(No::Short)?;
+    let laid = out.first_chunk_mut::<REPLY>().ok_or(No::OutShort)?;
     let state = if reply.busy { b'B' } else { b'R' };
     let aux = if reply.sink { b'S' } else { b'F' };
     *laid = [mid ^ 1, SECOND, REPLY as u8, reply.last, state, aux, 0, 0];
@@ -197,10 +197,10 @@ pub fn write_reply(mid: u8, reply: Reply, out: &mut [u8]) -> Result<usize, No> {
 /// What a reply of the sign of this MID tells.
 pub fn read_reply(mid: u8, bytes: &[u8]) -> Result<Reply, No> {
     let &[from, SECOND, 8, last, state @ (b'R' | b'B'), aux @ (b'S' | b'F'), 0, _] = bytes else {
-        return Err(No::NoReply);
+        return Err(No::Reply);
     };
     if from != mid ^ 1 || !can_be_last(last) || sum(bytes) != 0 {
-        return Err(No::NoReply);
+        return Err(No::Reply);
     }
     Ok(Reply { last, busy: state == b'B', sink: aux == b'S' })
 }

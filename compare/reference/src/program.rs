@@ -183,7 +183,7 @@ impl<'a> Reader<'a> {
             return Err(Refusal::at(No::Over84, BODY_MOST));
         }
         if body.first() != Some(&CARET) {
-            return Err(Refusal::at(No::NoCaret, 0));
+            return Err(Refusal::at(No::Caret, 0));
         }
         Ok(Reader { body, place: 0, open: None, endless: false })
     }
@@ -212,7 +212,7 @@ impl<'a> Reader<'a> {
             };
         }
         if self.endless {
-            return Err(Refusal::at(No::BehindEnd, self.place));
+            return Err(Refusal::at(No::AfterEnd, self.place));
         }
         let command = read_command(self.body, self.place)?;
         if !self.enter(&command) {

@@ -112,7 +112,7 @@ impl Sign {
     pub fn copy_body(&self, out: &mut [u8]) -> Result<usize, No> {
         self.standing()?;
         let length = usize::from(self.length);
-        let copy = out.get_mut(..length).ok_or(No::Short)?;
+        let copy = out.get_mut(..length).ok_or(No::OutShort)?;
         copy.copy_from_slice(&self.body[..length]);
         Ok(length)
     }

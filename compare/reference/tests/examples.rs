@@ -14,7 +14,7 @@ const HI: [u8; 12] = [0x80, 0x7F, 0x0C, 0x05, 0x10, 0x5E, 0x49, 0x49, 0x48, 0x49
 
 fn totals(body: &[u8]) -> (u32, u32, u32) {
     match forecast(body, 4, 1) {
-        Ok(Forecast::Ends(Totals { steps, scans, milliseconds })) => (steps, scans, milliseconds),
+        Ok(Forecast::Ends { totals: Totals { steps, scans, milliseconds }, .. }) => (steps, scans, milliseconds),
         other => panic!("{other:?}"),
     }
 }
@@ -111,8 +111,8 @@ fn many_steps() {
 fn lines(body: &[u8]) -> String {
     match forecast(body, 4, 1) {
         Ok(Forecast::Endless) => "end never".into(),
-        Ok(Forecast::Ends(t)) => {
-            format!("steps {}\nscans {}\nms {}\nend ready", t.steps, t.scans, t.milliseconds)
+        Ok(Forecast::Ends { totals, .. }) => {
+            format!("steps {}\nscans {}\nms {}\nend ready", totals.steps, totals.scans, totals.milliseconds)
         }
         Err(Refusal { no, place }) => format!("refused {} at {place}", no as u8),
     }

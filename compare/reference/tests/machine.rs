@@ -1,4 +1,4 @@
-//! Steps and forecasts: prices, loops, settings, and that a forecast is the sum of its steps.
+//! Steps and forecasts: prices, loops, settings, and that a forecast is the sum of its steps and tells what they leave.
 //! Answers to 01, "One step, and what it costs".
 
 use reference::machine::{Course, Forecast, Settings, Step, Totals, forecast};
@@ -125,6 +125,52 @@ fn forecast_says_17_first() {
     assert_eq!(forecast(b"^L1^F", 1, 1), Ok(Forecast::Endless));
 }
 
+/// The pace and scan setting that a body leaves from these ones.
+#[track_caller]
+fn left(body: &[u8], pace: u8, scans: u8) -> (u8, u8) {
+    match forecast(body, pace, scans) {
+        Ok(Forecast::Ends { pace, scans, .. }) => (pace, scans),
+        other => panic!("{other:?}"),
+    }
+}
+
+#[test]
+fn a_forecast_tells_the_settings_left() {
+    assert_eq!(left(b"^L2^SHI^P20^E", 4, 1), (20, 1));
+    assert_eq!(left(b"^=6^P1^SA", 4, 1), (1, 6));
+    assert_eq!(left(b"^L3^P7^=2^E", 4, 1), (7, 2));
+    // Texts, waits and what else isn't P or = leave what was given.
+    assert_eq!(left(b"^IIHI", 4, 1), (4, 1));
+    assert_eq!(left(b"^SHI^IAHI^IB", 20, 6), (20, 6));
+    assert_eq!(left(b"^W99^XS^XF^XD255^XB20^Y17^L5^W1^E", 1, 3), (1, 3));
+    // Of several the last one performed holds, wherever it stands.
+    assert_eq!(left(b"^P1^P20^=1^=6", 9, 3), (20, 6));
+    assert_eq!(left(b"^P20^P1^=6^=1", 9, 3), (1, 1));
+    assert_eq!(left(b"^SA^P02", 9, 3), (2, 3));
+    assert_eq!(left(b"^P5^L9^=4^E", 9, 3), (5, 4));
+    assert_eq!(left(b"^L9^P5^E^P6^=2", 9, 3), (6, 2));
+    assert_eq!(left(b"^L2^P5^SA^P8^E^L1^=5^E", 9, 3), (8, 5));
+    assert_eq!(left(b"^L99^P3^=2^P11^E", 9, 3), (11, 2));
+    assert_eq!(left(b"^L1^P3^E^L1^P19^E", 9, 3), (19, 3));
+    // A command that sets what is set already.
+    assert_eq!(left(b"^L4^P9^=3^E", 9, 3), (9, 3));
+    assert_eq!(left(b"^L4^P8^P9^E", 9, 3), (9, 3));
+}
+
+#[test]
+fn every_setting_can_be_left() {
+    for pace in 1..=20 {
+        for scans in 1..=6 {
+            let body = format!("^P{pace}^={scans}");
+            assert_eq!(left(body.as_bytes(), 21 - pace, 7 - scans), (pace, scans));
+            assert_eq!(left(format!("^L2{body}^E").as_bytes(), 21 - pace, 7 - scans), (pace, scans));
+            assert_eq!(left(format!("^P{pace}").as_bytes(), 21 - pace, scans), (pace, scans));
+            assert_eq!(left(format!("^={scans}").as_bytes(), pace, 7 - scans), (pace, scans));
+            assert_eq!(left(b"^SA", pace, scans), (pace, scans));
+        }
+    }
+}
+
 /// A row of small numbers that looks like chance.
 struct Dice(u64);
 
@@ -162,7 +208,7 @@ fn thrown_body(dice: &mut Dice) -> Vec<u8> {
 }
 
 #[test]
-fn a_forecast_is_the_sum_of_its_steps() {
+fn a_forecast_is_the_sum_of_its_steps_and_what_they_leave() {
     let mut dice = Dice(7);
     let mut accepted = 0;
     for _ in 0..20_000 {
@@ -172,13 +218,16 @@ fn a_forecast_is_the_sum_of_its_steps() {
         }
         accepted += 1;
         let (pace, scans) = (1 + dice.roll(20) as u8, 1 + dice.roll(6) as u8);
-        let mut sum = Totals::default();
-        for step in steps(&mut running(&body, pace, scans)) {
-            sum.steps += 1;
-            sum.scans += step.scans;
-            sum.milliseconds += step.milliseconds;
+        let mut sign = running(&body, pace, scans);
+        let mut totals = Totals::default();
+        for step in steps(&mut sign) {
+            totals.steps += 1;
+            totals.scans += step.scans;
+            totals.milliseconds += step.milliseconds;
         }
-        assert_eq!(forecast(&body, pace, scans), Ok(Forecast::Ends(sum)), "{}", body.escape_ascii());
+        let Settings { pace: pace_left, scans: scans_left, .. } = sign.settings;
+        let expected = Forecast::Ends { totals, pace: pace_left, scans: scans_left };
+        assert_eq!(forecast(&body, pace, scans), Ok(expected), "{}", body.escape_ascii());
     }
     assert!(accepted > 2000, "{accepted}");
 }

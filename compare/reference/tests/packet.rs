@@ -84,16 +84,16 @@ fn writers_say_no_in_order() {
     assert_eq!(write_packet(0, 0x40, &[], 6, &mut out[..0]), Err(No::Body));
     assert_eq!(write_packet(0, 0x40, b"a", 6, &mut out[..0]), Err(No::WriteId));
     assert_eq!(write_packet(0, 0x3F, b"a", 1, &mut out[..0]), Err(No::WritePosition));
-    assert_eq!(write_packet(0, 0x3F, b"a", 0, &mut out[..7]), Err(No::Short));
+    assert_eq!(write_packet(0, 0x3F, b"a", 0, &mut out[..7]), Err(No::OutShort));
     assert_eq!(write_transmission(0, 0x40, &[0; 85], &mut out[..0]), Err(No::Body));
     assert_eq!(write_transmission(0, 0x40, &[0; 84], &mut out[..0]), Err(No::WriteId));
-    assert_eq!(write_transmission(0, 0, &[0; 84], &mut out[..125]), Err(No::Short));
-    assert_eq!(write_query(0, &mut out[..6]), Err(No::Short));
-    assert_eq!(write_reset(0, &mut out[..6]), Err(No::Short));
+    assert_eq!(write_transmission(0, 0, &[0; 84], &mut out[..125]), Err(No::OutShort));
+    assert_eq!(write_query(0, &mut out[..6]), Err(No::OutShort));
+    assert_eq!(write_reset(0, &mut out[..6]), Err(No::OutShort));
     let reply = |last| Reply { last, busy: true, sink: true };
     assert_eq!(write_reply(0, reply(0x40), &mut out[..0]), Err(No::WriteId));
     assert_eq!(write_reply(0, reply(0x42), &mut out), Err(No::WriteId));
-    assert_eq!(write_reply(0, reply(0x41), &mut out[..7]), Err(No::Short));
+    assert_eq!(write_reply(0, reply(0x41), &mut out[..7]), Err(No::OutShort));
     assert_eq!(out, [0xEE; 126]);
     assert_eq!(write_transmission(0, 0, &[0; 84], &mut out), Ok(126));
 }
@@ -107,17 +107,17 @@ fn replies_read_back_and_nothing_else_does() {
             assert_eq!(write_reply(0x81, reply, &mut out), Ok(8));
             assert_eq!(out[0], 0x80);
             assert_eq!(read_reply(0x81, &out), Ok(reply));
-            assert_eq!(read_reply(0x80, &out), Err(No::NoReply));
+            assert_eq!(read_reply(0x80, &out), Err(No::Reply));
             for index in 0..8 {
                 let mut damaged = out;
                 damaged[index] ^= 0x20;
-                assert_eq!(read_reply(0x81, &damaged), Err(No::NoReply));
-                assert_eq!(read_reply(0x81, &out[..index]), Err(No::NoReply));
+                assert_eq!(read_reply(0x81, &damaged), Err(No::Reply));
+                assert_eq!(read_reply(0x81, &out[..index]), Err(No::Reply));
             }
         }
     }
     let mut out = [0x81, 0x7F, 8, 0x40, b'R', b'F', 0, 0];
     mend(&mut out);
-    assert_eq!(read_reply(0x80, &out), Err(No::NoReply));
-    assert_eq!(read_reply(0x80, &[0; 9]), Err(No::NoReply));
+    assert_eq!(read_reply(0x80, &out), Err(No::Reply));
+    assert_eq!(read_reply(0x80, &[0; 9]), Err(No::Reply));
 }

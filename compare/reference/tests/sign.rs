@@ -101,7 +101,7 @@ fn query_and_reset() {
 fn bodies_are_copied_and_repeated() {
     let sign = busy(LONG);
     let mut out = [0xEE; 40];
-    assert_eq!(sign.copy_body(&mut out[..31]), Err(No::Short));
+    assert_eq!(sign.copy_body(&mut out[..31]), Err(No::OutShort));
     assert_eq!(out, [0xEE; 40]);
     assert_eq!(sign.copy_body(&mut out), Ok(32));
     assert_eq!((&out[..32], &out[32..]), (LONG, [0xEE; 8].as_slice()));

@@ -29,9 +29,10 @@ fn with(totals: Totals, answer: Answer) -> Totals {
     }
 }
 
-// What a run comes to within so many steps: its totals, and whether it is Ready.
+// What a run comes to within so many steps: its totals, the settings that it leaves, and whether it is Ready.
 pub struct Ran {
     pub totals: Totals,
+    pub left: Settings,
     pub ready: bool,
 }
 
@@ -42,8 +43,10 @@ fn stepped(start: Run, room: &[u8]) -> Ran {
     let mut i: usize = 0;
     while i < 4000 {
         if run.len == 0 {
+            let left = run.settings;
             return Ran {
                 totals,
+                left,
                 ready: true,
             };
         }
@@ -54,8 +57,10 @@ fn stepped(start: Run, room: &[u8]) -> Ran {
         run = then;
         i += 1;
     }
+    let left = run.settings;
     Ran {
         totals,
+        left,
         ready: false,
     }
 }
@@ -93,12 +98,19 @@ fn agrees(made: Made, pace: u8, scans: u8) -> bool {
     };
     let ran = stepped(run, &body);
     let totals = ran.totals;
+    let left = ran.left;
     match told {
-        Foretold::Ends(foretold) => {
-            if ran.ready {
-                return same(foretold, totals);
+        Foretold::Ends(foretold, last_pace, last_scans) => {
+            if !ran.ready {
+                return false;
             }
-            false
+            if left.pace != last_pace {
+                return false;
+            }
+            if left.scans != last_scans {
+                return false;
+            }
+            same(foretold, totals)
         }
         Foretold::Endless => !ran.ready,
         Foretold::Refused(_, _) => !ran.ready,

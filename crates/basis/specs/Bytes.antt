@@ -1,4 +1,4 @@
--- Lists of bytes: their sum, being bytes, and what is laid at the front of a lent buffer.
+-- Lists of bytes: their sum (W7), being bytes, and what is laid at the front of a lent buffer (W13).
 use Prim.Native.Nat.{ℕ, _+_, _<_}
 use mathlib.Core.List.{List, [], _∷_, _++_}
 use lib.ListN.{length, drop}

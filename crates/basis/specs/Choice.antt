@@ -1,4 +1,4 @@
--- A choice by a Bool at any type, the two connectives and the test of a range, from which the decision lists of 01 are made.
+-- A choice by a Bool at any type, `and`, `or` and the test of a range: lists of decisions in order (N0, J3) use them.
 -- Each matches on its first argument, so that a test whose value is known computes away.
 use Prim.Native.Nat.{ℕ}
 use mathlib.Core.Bool.{Bool, true, false}

@@ -1,4 +1,4 @@
--- A table of refusals: a number and the test under which it is given. The first row whose test holds decides.
+-- A table of refusals (N0): a number and the test under which it is given. The first row whose test holds decides.
 use Prim.Native.Nat.{ℕ, _<_}
 use mathlib.Core.Bool.{Bool, false}
 use mathlib.Core.Path.{_≡_}

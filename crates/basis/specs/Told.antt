@@ -1,4 +1,4 @@
--- What a call answers, in 01's own numbers: one form for every answer, which the promises and the words for C both use.
+-- What a call answers, in the rules' numbers: one form for every answer (P13), for the promises and the words for C.
 use Prim.Native.Nat.{ℕ}
 use mathlib.Core.Bool.{Bool}
 use mathlib.Core.List.{List, []}

@@ -1,4 +1,4 @@
-// How many packets a body takes. Answers to 01: "14-byte body: one packet. 15: two. 84: six. 85: 31."
+// How many packets a body takes: rules W14 and N31.
 use crate::field;
 use packet::Written;
 use reader::Reading;

@@ -1,4 +1,4 @@
-// A body's forecast at pace 4 and one scan. Answers to 01's examples of forecasts.
+// A body's forecast at pace 4 and one scan, for the rules' examples of forecasts (S22 to S25).
 use crate::field;
 use reckon::Foretold;
 
@@ -7,7 +7,7 @@ pub(crate) fn forecast(body: &[u8]) {
     io::write_all(1, body);
     let told = reckon::forecast(body, 4, 1);
     match told {
-        Foretold::Ends(totals) => {
+        Foretold::Ends(totals, _, _) => {
             let steps = totals.steps;
             let scans = totals.scans;
             let millis = totals.millis;

@@ -1,5 +1,5 @@
-// The bench: every example of 01 that has no star, and every forecast, through the public calls, a line each. The file stdout is
-// written from 01.
+// The bench (P5): every example of the rules that has no star, and every forecast, by the public calls, a line each.
+// The file stdout is written from the rules.
 //   carry      how many packets a body takes
 //   show       a body sent to a new sign packet by packet, and its first step
 //   foretell   a body's forecast at pace 4 and one scan

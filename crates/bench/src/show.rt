@@ -1,4 +1,4 @@
-// A body sent to a new sign, and its first step. Answers to 01's examples of columns and scans.
+// A body sent to a new sign, and its first step, for the rules' examples of columns and scans (S16 to S20).
 use crate::field;
 use machine::Answer;
 use packet::Written;

@@ -1,5 +1,5 @@
-// A day on the bus. Each line of the file stdin says what happens to one sign (MID 80h), and each line of the file stdout, written by
-// hand from 01, what it must answer.
+// A day on the bus. Each line of the file stdin says what happens to one sign (MID 80h), and each line of the file
+// stdout, written by hand from the rules (J3 to J16, S1 to S13, S28 to S30), what it must answer.
 //   lines  a line taken apart: `r` bytes received, in hexadecimal; `s` a step; `z` a reset; `F` or `S` a reply with AUX so; `c` a copy of
 //          the running body; `p` power-on; `x` a record that is made unsound; `t` place, length and text of the repeater
 //   show   the answer in words

@@ -1,5 +1,6 @@
--- What each call answers, makes of the image, and writes into the lent answer. An answer's numbers are `toldOf` of its own crate, and how they are laid stands in `words`.
-use Prim.Native.Nat.{ℕ}
+-- What each call for C answers, makes of the image, and writes into the lent answer: N251, N252 and their order in N0.
+-- An answer's numbers are `toldOf` of its own crate (P13), and `words` has how they are laid.
+use Prim.Native.Nat.{ℕ, _+_, _*_}
 use mathlib.Core.Bool.{not}
 use mathlib.Core.List.{List, [], _∷_}
 use mathlib.Core.Path.{_≡_}
@@ -44,10 +45,10 @@ replyNo mid bytes answer = firstOr (answerRow 12 answer ∷ []) (heardTold (hear
 
 -- forecasting a body
 abbrev pub forecastResult : (body : List ℕ) → (pace each : ℕ) → (answer : List ℕ) → ℕ
-forecastResult body pace each answer = firstOr (answerRow 16 answer ∷ []) (foretoldResult (forecastOf body pace each))
+forecastResult body pace each answer = firstOr (answerRow 24 answer ∷ []) (foretoldResult (forecastOf body pace each))
 
 abbrev pub forecastAnswer : (body : List ℕ) → (pace each : ℕ) → (answer : List ℕ) → List ℕ
-forecastAnswer body pace each answer = toldIn 16 (wordsOf (foretoldTold (forecastOf body pace each) .values)) answer
+forecastAnswer body pace each answer = toldIn 24 (wordsOf (foretoldTold (forecastOf body pace each) .values)) answer
 
 -- 251: an image of another size
 abbrev pub imageRow : List ℕ → Row
@@ -102,3 +103,7 @@ stepAnswer image answer = keptOf (stepNo image answer) answer (laid (wordsOf (st
 -- the reply to a query, and a copy of the running body: the guard, then 34
 abbrev pub tellRows : (bytes : Sign → List ℕ) → (image out : List ℕ) → List Row
 tellRows bytes image out = guarded image (shortBy (bytes (recordOf image)) out ∷ [])
+
+-- a version as one value
+abbrev pub versionOf : (major minor patch : ℕ) → ℕ
+versionOf major minor patch = 65536 * major + 256 * minor + patch

@@ -3,12 +3,14 @@
 // image of another size, 16 for an unsound record, 252 for an answer that is too short, then the method of `Sign`. A refused call
 // changes no lent byte. What an answer is told as stands in the crate `words`.
 //   loaded  the record in a lent image, and back
-//   wire    packets and replies, read and written      01, "The packet"
-//   line    a body judged and forecast                 01, "The program", "One step, and what it costs"
-//   unit    the sign over its image                    01, "Joining", "One step, and what it costs"
+//   wire    packets and replies, read and written      W9, W12 to W18
+//   line    a body judged and forecast                 L29, S22 to S25, S32
+//   unit    the sign over its image                    J3, J14 to J16, S1, S28, S29
+//   version the archive's version
 mod line;
 mod loaded;
 mod unit;
+mod version;
 mod wire;
 
 pub use line::yd_forecast;
@@ -20,6 +22,7 @@ pub use unit::yd_repeat;
 pub use unit::yd_reply;
 pub use unit::yd_reset;
 pub use unit::yd_step;
+pub use version::yd_version;
 pub use wire::yd_read_packet;
 pub use wire::yd_read_reply;
 pub use wire::yd_write_packet;

@@ -1,4 +1,4 @@
-// A body judged and forecast, for C. Answers to 01, "The program" and "The forecast gives totals of steps, scans and milliseconds".
+// A body judged (L29) and forecast (S22 to S25, S32), for C.
 use judge::judge;
 use reckon::forecast;
 use words::tell_forecast;
@@ -17,13 +17,13 @@ pub extern "C" fn yd_judge(body: &[u8]) -> u32
     tell_verdict(verdict)
 }
 
-// How long a body runs from this pace and scan setting.
+// How long a body runs from this pace and scan setting, and what it leaves of both.
 #[no_mangle]
 pub extern "C" fn yd_forecast(body: &[u8], pace: u8, scans: u8, answer: &mut [u8]) -> u32
     ensures result { λ r. ⌜ r ≡ forecastResult (now (body .entry)) pace scans (now (answer .entry)) ⌝ }
     ensures told { λ _. ⌜ now (answer .exit) ≡ forecastAnswer (now (body .entry)) pace scans (now (answer .entry)) ⌝ }
 {
-    if answer.len() < 16 {
+    if answer.len() < 24 {
         return 252;
     }
     let foretold = forecast(body, pace, scans);

@@ -1,4 +1,4 @@
-// The sign for C, over an image of its record. Answers to 01, "Joining", "One step, and what it costs", and to 16 and 34.
+// The sign for C, over an image of its record: rules J3, J14 to J16, S1, S28 and S29, with N16, N34, N251 and N252.
 use crate::loaded::SIZE;
 use crate::loaded::load;
 use crate::loaded::short;
@@ -13,11 +13,12 @@ ghost use mathlib.Core.Path.{_≡_};
 ghost use mathlib.Core.Bool.{not};
 ghost use mathlib.Core.List.{[], _∷_};
 ghost use lib.Dec.{eqb};
-ghost use Rattle.basis.specs.Choice.{when};
 ghost use Rattle.basis.specs.Rows.{firstOf};
+ghost use Rattle.basis.specs.Told.{flagOf};
 ghost use Rattle.image.specs.Layout.{recordOf};
 ghost use Rattle.repeater.specs.Repeat.{withinOf};
 ghost use Rattle.sign.specs.Tell.{saysOf, runningBody};
+ghost use Rattle.words.specs.Words.{resultOf};
 ghost use Rattle.cabi.specs.Calls.{Tells, imageRow, powerImage, resetNo, resetImage, receiveNo, receiveImage, receiveAnswer, stepNo, stepImage, stepAnswer, tellRows};
 
 // The image of a sign that was just switched on.
@@ -132,10 +133,10 @@ pub extern "C" fn yd_copy_body(image: &[u8], out: &mut [u8]) -> u32
     tell_written(written)
 }
 
-// Whether the repeater shows the stretch of the body at this place and of this length, and not the standing line.
+// Whether the repeater shows the stretch of the body at this place and of this length, and not the standing line: the value is 1 or 0.
 #[no_mangle]
 pub extern "C" fn yd_repeat(body: &[u8], place: usize, length: usize) -> u32
-    ensures { λ r. ⌜ r ≡ when (withinOf (now (body .entry)) place length) 1 0 ⌝ }
+    ensures { λ r. ⌜ r ≡ resultOf 0 (flagOf (withinOf (now (body .entry)) place length)) ⌝ }
 {
-    if shows(body, place, length) { 1 } else { 0 }
+    if shows(body, place, length) { 256 } else { 0 }
 }

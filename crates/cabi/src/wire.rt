@@ -1,4 +1,4 @@
-// Packets and replies for C, read and written. Answers to 01, "The packet".
+// Packets and replies for C, read (W9, W12) and written (W13 to W18).
 use packet::write_query;
 use packet::write_reset;
 use reader::read_packet;

@@ -1,5 +1,5 @@
--- The slots of a collection: a length for each position (0: not held), and a room of 14 bytes for each, one behind the other.
--- 01: "All packets but the last carry 14 data bytes", "N is 1 to 6, position below N", "the data joined by position is the body".
+-- The slots of a collection (J1): a length for each position (0: not held), and 14 bytes of room for each, in a row.
+-- Rules W5 and R5 say what a slot may hold; J6 begins, J8 compares, J9 stores, J10 joins.
 use Prim.Native.Nat.{ℕ, _+_, _-_, _*_}
 use mathlib.Core.List.{List, [], _∷_, _++_}
 use mathlib.Core.Bool.{Bool, true, false}

@@ -1,6 +1,4 @@
--- Which collections are sound, one rule for each part.
--- 01: "the collected packets obey the packet rules, are of one total, at least one and not all there, and their ID isn't the last
--- completed; unused room holds zeros".
+-- Which collections are sound, part by part: rules R4 and R5.
 use Prim.Native.Nat.{ℕ}
 use mathlib.Core.Bool.{Bool, not}
 use lib.Dec.{eqb, ltb, leb}

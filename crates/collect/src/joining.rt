@@ -1,5 +1,4 @@
-// Data that are equal, and slots that hold nothing yet. Answers to 01, "Joining": "this packet begins", "Position already held: equal
-// data ..".
+// Data that are equal (J8), and slots that hold nothing yet (J6).
 use crate::Slots;
 ghost use mathlib.Core.Path.{_≡_};
 ghost use Rattle.collect.specs.Slots.{sameOf, begunOf, slotsIn};

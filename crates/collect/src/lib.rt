@@ -1,8 +1,7 @@
-// The packets that a sign has collected of a transmission (01, "Joining"): a slot for each position, and what it takes for them
-// to be sound. The data stand in a room beside the slots, which is lent.
-//   sound    which slots obey the packet rules, and how many are held     "the collected packets obey the packet rules, .. unused
-//            room holds zeros"
-//   joining  whether data are equal, and slots that hold nothing yet      "Position already held: equal data gives Repeat"
+// The packets that a sign has collected of a transmission (J1): a slot for each position, and what makes them sound.
+// The data stand in a room beside the slots, which is lent.
+//   sound    which slots obey the packet rules, and how many are held     R4, R5, W5
+//   joining  whether data are equal, and slots that hold nothing yet      J6, J8
 // specs/Slots has the slots and the data joined by position; specs/Sound the soundness of a collection.
 mod joining;
 mod sound;

@@ -1,5 +1,4 @@
-// Which collections are sound. Answers to 01's last paragraph of "Numbers for no": "the collected packets obey the packet rules, are
-// of one total, at least one and not all there, and their ID isn't the last completed; unused room holds zeros".
+// Which collections are sound: rules R4 and R5.
 use crate::Slots;
 use room::clean;
 ghost use mathlib.Core.Path.{_≡_};

@@ -1,6 +1,6 @@
--- What a block costs, by any measure of a performed command, with each loop's commands read at most twice: from the second pass
--- on a pass begins at the settings that the one before left, so that all later passes cost the same.
--- 01: "It should read a loop's commands at most twice".
+-- What a block costs, by any measure of a performed command, with each loop's commands read twice at most: from the
+-- second pass on, a pass begins at the settings that the one before left, so all later passes cost the same.
+-- Rules S21, S23 and S27.
 use Prim.Native.Nat.{ℕ, zero, suc, _+_, _*_}
 use mathlib.Core.List.{List, [], _∷_}
 use Rattle.perform.specs.declared.settings.Settings.{Settings}

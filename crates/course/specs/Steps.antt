@@ -1,7 +1,5 @@
 -- A running program stepped by places and counts, over any reader of commands and any length.
--- 01: "`L` sets the count left; `E` with more than 1 left lowers it and goes behind the `L`, else clears loop place and count and
--- goes on. `F` goes behind its `L`, `R` to the first command. Behind the last command the sign is Ready and holds no body; a step
--- then answers Idle and zeros. Pace and scan setting last until changed or reset."
+-- Rules S1 and S6 to S10 for the place and the loop, S11 for the end, S12 for Idle, S13 for the settings.
 use Prim.Native.Nat.{ℕ, zero, suc, _+_}
 use mathlib.Core.List.{List, [], _∷_}
 use lib.Dec.{ltb}

@@ -1,5 +1,5 @@
 -- A program as a tree of commands and loops, built from its commands, and what it unrolls to.
--- DESIGN's second meaning of a program: plain commands once; a loop as `L`, then n times its commands and `E`.
+-- Rules S22 and S23: a plain command once; a loop as `L`, then n times its commands and `E`. Endless: L28, S9 and S10.
 use Prim.Native.Nat.{ℕ, zero, suc, _+_}
 use mathlib.Core.List.{List, [], _∷_, _++_}
 use Rattle.perform.specs.declared.settings.Settings.{Settings}

@@ -1,5 +1,5 @@
-// The forecast program of 01: a body on standard input, nothing stripped, at pace 4 and one scan. It writes the totals and `end
-// ready`, `end never`, or `refused N at P`.
+// The forecast program (S31): a body on standard input, nothing stripped, at pace 4 and one scan. It writes the totals
+// and `end ready`, `end never`, or `refused N at P`.
 use libc::STDIN_FILENO;
 use libc::STDOUT_FILENO;
 use reckon::Foretold;
@@ -36,7 +36,7 @@ fn main() {
     let got = io::read_full(STDIN_FILENO, &mut buffer);
     let told = reckon::forecast(&buffer[..got], 4, 1);
     match told {
-        Foretold::Ends(totals) => ends(totals),
+        Foretold::Ends(totals, _, _) => ends(totals),
         Foretold::Endless => {
             io::write_all(STDOUT_FILENO, b"end never\n");
         }

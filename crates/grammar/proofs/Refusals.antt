@@ -1,4 +1,4 @@
--- The refusal that `judge` names is the first in 01's order, and the place that it gets to is where judging stands.
+-- The refusal that `judge` names is the first in N0's order, and the place that it gets to is where judging stands.
 use Prim.Native.Nat.{ℕ, zero, suc, _+_, _≤_, _<_}
 use mathlib.Core.Path.{_≡_, refl, sym, ap, subst, _∙_}
 use mathlib.Core.Bool.{Bool, true, false}

@@ -1,6 +1,5 @@
 -- The programs, as a grammar: what a body must be to be accepted, with no word of how it is judged.
--- 01: "A body is 1 to 84 bytes, commands only"; "Loops don't nest. `E` or `F` closes an open `L`. `F`, and `R` outside a loop,
--- stand last or not at all; a program with one of them is endless."
+-- Rules L1 and L2 for the body and its commands, L25 to L27 for loops and endings, L28 for endless, L29 for accepted.
 use Prim.Native.Nat.{ℕ, _+_, _≤_}
 use mathlib.Core.Path.{_≡_}
 use mathlib.Core.List.{List, [], _∷_}

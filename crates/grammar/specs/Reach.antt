@@ -1,6 +1,4 @@
--- Where judging a body gets to, and which refusal is the first in 01's order, as relations.
--- 01: "28 and 21 come first. Then commands from the left; within one, 27, 22, then 23 to 25 (first byte at fault), then 26. ..
--- An unclosed `L` is judged at the end."
+-- Where judging a body gets to, and which refusal is the first, as relations: L29, and N21 to N28 in the order of N0.
 use Prim.Native.Nat.{ℕ, _+_, _≤_, _<_}
 use mathlib.Core.Path.{_≡_}
 use mathlib.Core.List.{List, [], _∷_}

@@ -1,5 +1,5 @@
--- Which last ID, slots and room are sound beside the length of a running body, 0 when Ready: all of a record but its run.
--- 01: "last ID 0 to 3Fh or 41h; .. Busy collects nothing". The room of a Busy sign holds the body, and is its run's to judge.
+-- Which last ID, slots and room are sound beside the length of a running body (0: Ready): all of a record but its run.
+-- Rules R2, R4, R5 and R7. The room of a Busy sign holds the body, which the soundness of its run is about.
 use Prim.Native.Nat.{ℕ}
 use mathlib.Core.Bool.{Bool}
 use lib.Dec.{eqb}

@@ -1,4 +1,4 @@
--- Bytes off the line, judged in 01's order: 16, the reader's numbers 1 to 11, query, reset, then the joining of a normal packet.
+-- Bytes off the line, in the order of J3: 16, the reader's 1 to 11, query (J13), reset (J14), then a normal packet.
 use Prim.Native.Nat.{ℕ}
 use mathlib.Core.List.{List, [], _∷_}
 use lib.ListN.{take, drop}
@@ -28,7 +28,8 @@ heardOf last c len b read = readBy (stayOf last c) resetLeft (joinBy (stayOf las
 unfoldable pub hearOf : ℕ → Collection → ℕ → ℕ → List ℕ → Left
 hearOf last c len mid b = when (framedBy last c len) (heardOf last c len b (readOf mid b)) (stayOf last c (Refused 16))
 
--- the outcome in 01's numbers: which of the five it is, and for Released the refusal of its program, 0 where it is accepted, and its place
+-- the outcome in the rules' numbers: which of the five it is, and for Released the refusal of its program and its place
+-- (J12), 0 where it is accepted
 abbrev pub toldOf : Outcome → Told
 toldOf Query = yes (1 ∷ 0 ∷ 0 ∷ [])
 toldOf Reset = yes (2 ∷ 0 ∷ 0 ∷ [])

@@ -1,6 +1,6 @@
--- A normal packet that passed the reader, judged in 01's order and joined.
--- The order is said once, of what stays and of what a collection comes to with the packet in it; here those are what is heard, and in
--- `sign` they are records.
+-- A normal packet that passed the reader, judged in the order of J3 and joined: J4 to J10, N12 and N13.
+-- The order is said once, of what stays and of what a collection comes to with the packet in it; here those are what is
+-- heard, and in `sign` they are records.
 use Prim.Native.Nat.{ℕ, _+_, _*_, _≤_, _<_}
 use mathlib.Core.List.{List}
 use mathlib.Core.Bool.{Bool, true, not}

@@ -1,5 +1,5 @@
-// Which last ID, slots and room are sound. Answers to 01's last paragraph of "Numbers for no": "last ID 0 to 3Fh or 41h; .. Busy
-// collects nothing"; the packets collected are decided by their own crate, and the room of a Busy sign is the running program's.
+// Which last ID, slots and room are sound: R2, and no collection when Busy (R7). The crate `collect` decides on the
+// packets collected (R4, R5), and the room of a Busy sign is the running program's.
 use collect::Slots;
 use reply::is_last;
 ghost use mathlib.Core.Path.{_≡_};

@@ -1,6 +1,5 @@
-// A normal packet judged and joined. Answers to 01, "Joining": "ID equal to the last completed ID: Repeat, nothing changes. Sign Busy:
-// 12. Another ID than the one collected, or none collected: what was collected is dropped and this packet begins. Same ID, other N:
-// 13. Position already held: equal data gives Repeat, other data 13. Otherwise Stored, and if all N are held, Released".
+// A normal packet judged in the order of J3 and joined: Repeat of the last ID (J4), 12 (J5), a new collection (J6), 13
+// for another N (J7), a position already held (J8), Stored (J9), Released (J10).
 use crate::Heard;
 use crate::Outcome;
 use collect::Slots;

@@ -1,8 +1,8 @@
-// What bytes off the line make of the packets that a sign has collected (01, "Joining"). Of the record it has the last completed ID, the
-// slots and the room; the running program is told of by its length alone, 0 when Ready. The crate `sign` has the record whole.
-//   frame    last ID, slots and room, sound beside a running body    "last ID 0 to 3Fh or 41h; .. Busy collects nothing"
-//   join     a normal packet judged and joined                       "A normal packet that passed the reader is judged in this order"
-//   hearing  bytes read, and joined if they are a normal packet       "Query changes nothing. Reset .."
+// What bytes off the line make of the packets that a sign has collected (J3). Of the record it has the last completed
+// ID, the slots and the room, and of the running program the length alone, 0 when Ready. The crate `sign` has it whole.
+//   frame    last ID, slots and room, sound beside a running body    R2, R4, R5, R7
+//   join     a normal packet judged and joined                       J4 to J10, N12, N13
+//   hearing  bytes read, and joined if they are a normal packet      J3, J13, J14, N16
 mod frame;
 mod hearing;
 mod join;

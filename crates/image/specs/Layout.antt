@@ -1,6 +1,5 @@
--- The image of a record: its fields as 102 bytes at fixed places, and the record that any image is.
--- 01: "The sign's record holds: last completed ID, the ID being collected or none with its packets, the running body, place, loop place
--- and loop count, pace, scans per shift, AUX drive, dim threshold, forced brightness." One room holds the packets or the body.
+-- The image of a record (N251): the parts of J1 as 102 bytes at fixed places, and the record that any image is. One
+-- room holds the packets or the body (R5).
 use Prim.Native.Nat.{ℕ, _%_}
 use mathlib.Core.List.{List, [], _∷_, _++_}
 use lib.ListN.{getD, take, drop}

@@ -1,6 +1,4 @@
--- Where a place stands in a body: what a sound record's place and loop place are held to.
--- 01: "an accepted body and a place at a command, with the loop place behind the enclosing `L` and a count left from 1 to its
--- number inside a loop (at its closing command too), both 0 outside".
+-- Where a place stands in a body: what a sound record's place (R7) and loop place (R8) are held to.
 use Prim.Native.Nat.{ℕ}
 use mathlib.Core.List.{List, [], _∷_}
 use mathlib.Core.Bool.{Bool, false}

@@ -1,6 +1,5 @@
--- A whole body judged.
--- 01: "28 and 21 come first. Then commands from the left; .. An unclosed `L` is judged at the end." 28: "body over 84 (place
--- 84)"; 21: "empty or first byte no caret (place 0)". "a program with one of them is endless", of `F` and an outer `R`.
+-- A whole body judged (L29), endless or not (L28). The order is that of N0: N28, N21, the commands, and last an `L`
+-- that is not closed (N26).
 use Prim.Native.Nat.{ℕ}
 use mathlib.Core.List.{List, [], _∷_}
 use mathlib.Core.Bool.{Bool, true, false}
@@ -46,7 +45,7 @@ judgeOf b =
     when (ltb 84 (length b)) (Refused 28 84)
     (when (eqb (getD b 0 0) caret) (commandsOf b) (Refused 21 0))
 
--- the verdict in 01's numbers: 1 for an endless program, 0 for one that ends; or the number for no and its place
+-- the verdict in the rules' numbers: 1 for an endless program, 0 for one that ends; or the refusal's number and place
 abbrev pub toldOf : Verdict → Told
 toldOf Finite = yes (0 ∷ [])
 toldOf Endless = yes (1 ∷ [])

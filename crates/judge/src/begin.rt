@@ -1,4 +1,4 @@
-// The refusals that come before any command. Answers to 01: "28 and 21 come first."
+// The refusals that come before any command: N28, then N21.
 use crate::Opening;
 use params::CARET;
 ghost use mathlib.Core.Path.{_≡_};

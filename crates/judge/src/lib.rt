@@ -1,11 +1,9 @@
-// A whole body judged (01, "The program" and "Numbers for no"): accepted, endless or not, or refused with a number and a place.
+// A whole body judged (L29): accepted, endless or not (L28), or refused with a number and a place (N21 to N28).
 // No public call has a `requires`: each answers for any bytes and any place.
-//   walk    the commands from the left, and a place among them      "Then commands from the left; .. An unclosed `L` is
-//           judged at the end."
-//   begin   the refusals before any command                         "28 and 21 come first."
-//   whole   a whole body judged                                     "28 and 21 come first. Then commands from the left"
-//   places  whether a place is at a command, and in which loop      "a place at a command, with the loop place behind the
-//           enclosing `L`", of a sound record
+//   walk    the commands from the left, and a place among them      L26, L28, N0, N26, R7, R8
+//   begin   the refusals before any command                         N28, N21
+//   whole   a whole body judged                                     L28, L29, N0
+//   places  whether a place is at a command, and in which loop      R7, R8
 // The crate `loops` judges one command among those before it.
 mod begin;
 mod places;

@@ -1,5 +1,4 @@
-// Where a place stands in a body. Answers to 01's sound record: "an accepted body and a place at a command, with the loop place
-// behind the enclosing `L`".
+// Where a place stands in a body: what R7 and R8 ask of a sound record's place and loop place.
 use crate::Found;
 use crate::Opening;
 use crate::Standing;

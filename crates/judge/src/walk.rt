@@ -1,7 +1,5 @@
-// A body's commands walked from the left, once for all that is asked of them: the verdict, and where a place stands and what is read
-// there. Answers to
-// 01: "Then commands from the left; .. An unclosed `L` is judged at the end", and its sound record's "a place at a command, with
-// the loop place behind the enclosing `L`".
+// A body's commands walked from the left, once for all that is asked of them: the verdict (L28, L29, in the order of
+// N0), and where a place stands and what is read there (R7, R8).
 use crate::Standing;
 use crate::Verdict;
 use crate::Walked;

@@ -1,4 +1,4 @@
-// A body judged. Answers to 01: "28 and 21 come first. Then commands from the left".
+// A body judged: rule L29, in the order of N0.
 use crate::Opening;
 use crate::Verdict;
 use crate::begin::front;
@@ -6,7 +6,8 @@ use crate::walk::walk;
 ghost use mathlib.Core.Path.{_≡_};
 ghost use Rattle.judge.specs.Verdict.{judgeOf};
 
-// Whether a body is a program, and endless; or the first refusal in 01's order. No place is looked for: none is behind the end.
+// Whether a body is a program, and endless; or the first refusal in N0's order. It looks for no place: the one that
+// the walk gets is after the last command.
 pub fn judge(body: &[u8]) -> Verdict
     ensures { λ r. ⌜ r ≡ judgeOf (now (body .entry)) ⌝ }
 {

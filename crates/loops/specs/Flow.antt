@@ -1,4 +1,4 @@
--- How the code holds where judging stands: at most one loop is open, so three cases carry room, end and open loops.
+-- How the code holds where judging stands: at most one loop is open (L25), so three cases carry room, end and loops.
 use Prim.Native.Nat.{ℕ}
 use mathlib.Core.List.{List, [], _∷_}
 use mathlib.Core.Bool.{Bool, true, false}

@@ -1,6 +1,4 @@
--- The rule of structure, apart from the rules of one command.
--- 01: "Loops don't nest. `E` or `F` closes an open `L`. `F`, and `R` outside a loop, stand last or not at all"; 26: "nested `L`,
--- `E` or `F` without `L`, `R` in a loop; `L` never closed, at that `L`"; 27: "a command behind `F` or `R`".
+-- The rule of structure, apart from the rules of one command: L25 to L27, with N26 and N27.
 use Prim.Native.Nat.{ℕ, zero, suc, _+_}
 use mathlib.Core.List.{List, [], _∷_}
 use mathlib.Core.Bool.{Bool, true, false}

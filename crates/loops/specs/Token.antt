@@ -1,5 +1,5 @@
 -- A command as the structure of a program sees it, and the list of a body's commands.
--- 01: "A body is .. commands only"; "`F`, and `R` outside a loop"; "`E` or `F` closes an open `L`".
+-- Rules L1 and L2 for the list, L13 to L16 for `L`, `E`, `F` and `R`, S3, S4 and S15 for the values of the others.
 use Prim.Native.Nat.{ℕ, zero, suc, _+_, _-_}
 use mathlib.Core.List.{List, [], _∷_}
 use lib.Dec.{ltb}

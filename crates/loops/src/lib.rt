@@ -1,7 +1,7 @@
-// One command judged among those before it, and the rule of loops (01, "The program" and "Numbers for no"). No public call has a
-// `requires`: each answers for any command, any place and any loop.
-//   structure  the rule of loops, 26, and which loop stands open       "Loops don't nest. `E` or `F` closes an open `L`. .."
-//   single     one command judged among those before it                "within one, 27, 22, then 23 to 25 .., then 26"
+// One command judged among those before it, and the rule of loops. No public call has a `requires`: each answers for
+// any command, any place and any loop.
+//   structure  the rule of loops, 26, and which loop stands open       L25 to L27, N26
+//   single     one command judged among those before it                N0, N27, N26
 // specs/Token has a command as the structure of a program sees it, and a body's list of them. The crate `judge` judges a whole body.
 mod single;
 mod structure;

@@ -1,4 +1,4 @@
-// One command judged among those before it. Answers to 01: "within one, 27, 22, then 23 to 25 (first byte at fault), then 26".
+// One command judged among those before it, in the order of N0: 27, what reading refuses (22 to 25), then 26.
 use crate::Flow;
 use crate::Open;
 use crate::Rule;

@@ -1,5 +1,4 @@
-// The rule of loops. Answers to 01: "Loops don't nest. `E` or `F` closes an open `L`. `F`, and `R` outside a loop, stand last or
-// not at all", and the refusal 26 but for an unclosed `L`.
+// The rule of loops: L25 to L27, and N26 but for an `L` that is never closed.
 use crate::Flow;
 use crate::Open;
 use crate::Role;

@@ -1,4 +1,4 @@
--- The line that a body shows: the commands that it performs from given settings, one after the other.
+-- The line that a body shows: the commands that it performs from given settings, in order (S22, S23; endless ones L28).
 use Prim.Native.Nat.{ℕ}
 use mathlib.Core.List.{List, [], _∷_}
 use Rattle.perform.specs.declared.settings.Settings.{Settings}

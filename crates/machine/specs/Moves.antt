@@ -1,4 +1,4 @@
--- What a command makes of a run's record, field by field: the step of specs/Step written for a record with one open loop.
+-- What a command makes of a run's record, field by field (S6 to S11): the step of specs/Step for one open loop.
 -- Contracts of private functions cite it, and no public one does.
 use Prim.Native.Nat.{ℕ, _-_}
 use mathlib.Core.List.{List}

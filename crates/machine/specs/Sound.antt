@@ -1,7 +1,4 @@
--- Which runs are sound, with their body at the front of a room, one rule for each part.
--- 01: "pace, scans, threshold in range, brightness 0 or 2 to 31; .. unused room holds zeros; Ready has no body, and places and
--- count 0; Busy .. has an accepted body and a place at a command, with the loop place behind the enclosing `L` and a count left
--- from 1 to its number inside a loop (at its closing command too), both 0 outside."
+-- Which runs are sound, with their body at the front of a room, part by part: rules R3 and R5 to R8.
 use Prim.Native.Nat.{ℕ}
 use mathlib.Core.List.{List}
 use mathlib.Core.Bool.{Bool, false}

@@ -1,6 +1,5 @@
--- One step of a run: the state that its record stands for, the step of that state, and the record of the state behind it.
--- 01: "A step performs one command and answers ..", "Behind the last command the sign is Ready and holds no body; a step then
--- answers Idle and zeros", and number 16, "unsound record, before all else".
+-- One step of a run: the state that its record stands for, the step of that state, and the record of the next state.
+-- Rules S1 and S6 to S13, J11 for a body just started, N16 for an unsound run.
 use Prim.Native.Nat.{ℕ, zero, suc}
 use mathlib.Core.List.{List, [], _∷_}
 use lib.Dec.{eqb}
@@ -78,7 +77,8 @@ saidRun (suc k) room r = stepOf room r .answer ∷ saidRun k room (stepOf room r
 unfoldable pub startedOf : ℕ → Settings → Run
 startedOf len σ = record { len = len; place = 0; inner = outside; settings = σ }
 
--- the answer in 01's numbers: kind, number as written, text place and length, start column, scans, milliseconds; Idle is zeros
+-- the answer in the rules' numbers (S1 to S5): kind, number as written, text place and length, start column, scans,
+-- milliseconds; Idle is zeros (S12)
 abbrev pub valuesOf : Performed → List ℕ
 valuesOf x = kindOf (x .kind) ∷ x .number ∷ x .text ∷ x .len ∷ x .column ∷ x .scans .0 ∷ x .millis .0 ∷ []
 

@@ -1,7 +1,6 @@
-// A running program ("One step, and what it costs"): its place and one step of it. The crate `reckon` forecasts all its steps.
-//   sound    which runs are sound                                  "Ready has no body .. Busy .. has an accepted body and a place
-//            at a command, .."
-//   steps    one step: a command performed and the next run        "A step performs one command and answers .."
+// A running program: its place and one step of it. The crate `reckon` forecasts all its steps.
+//   sound    which runs are sound                                  R3, R5 to R8
+//   steps    one step: a command performed and the next run        S1, S6 to S13, N16
 // A run holds its body's length; the body itself is lent beside it, at the front of a room, and no step changes it.
 // specs/Line has the commands that a body performs, which the forecast and the promises speak of.
 mod sound;

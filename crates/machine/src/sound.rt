@@ -1,6 +1,4 @@
-// Which runs are sound. Answers to 01's last paragraph of "Numbers for no": "pace, scans, threshold in range, .. unused room holds
-// zeros; Ready has no body, and places and count 0; Busy .. has an accepted body and a place at a command, with the loop place
-// behind the enclosing `L` and a count left from 1 to its number inside a loop .., both 0 outside."
+// Which runs are sound: rules R3 and R5 to R8.
 use crate::Loop;
 use crate::Run;
 use judge::Standing;

@@ -1,6 +1,4 @@
-// One step of a run. Answers to 01: "`L` sets the count left; `E` with more than 1 left lowers it and goes behind the `L`, else
-// clears loop place and count and goes on. `F` goes behind its `L`, `R` to the first command. Behind the last command the sign is
-// Ready and holds no body; a step then answers Idle and zeros."
+// One step of a run: rules S1 and S6 to S13, and N16.
 use crate::Answer;
 use crate::Loop;
 use crate::Run;

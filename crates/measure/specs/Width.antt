@@ -1,7 +1,4 @@
--- A text measured in columns.
--- 01: "Width: each text starts in `D`. Columns per character: D 6, d 7, B 8, b 9, C 5, c 6; a graphic byte 1; tilde pairs 0. A
--- text fits if its width is at most 96, blanks behind its last character counted. A shown text starts at column
--- (96 - width)/2, rounded down."
+-- A text measured in columns: its width (S15), whether it fits (S16), and where a shown text starts (S17).
 use Prim.Native.Nat.{ℕ, _+_, _-_, _/_}
 use mathlib.Core.List.{List, [], _∷_}
 use mathlib.Core.Bool.{Bool}

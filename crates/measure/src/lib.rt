@@ -1,6 +1,5 @@
-// A text measured in columns (01, "The program": "Width: each text starts in `D`. .."). No call has a `requires`; each answers for
-// any bytes and any width.
-//   measure    the width of a text, alone or in a body; whether it fits; where it starts
+// A text measured in columns. No call has a `requires`; each answers for any bytes and any width.
+//   measure    the width of a text, alone or in a body; whether it fits; where it starts      S15 to S17
 // The definitions that the contracts cite stand in specs/Width.
 mod measure;
 

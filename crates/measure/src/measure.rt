@@ -1,5 +1,4 @@
-// A text measured. Answers to 01: "Width: each text starts in `D`. Columns per character: .. A text fits if its width is at
-// most 96 .. A shown text starts at column (96 - width)/2, rounded down."
+// A text measured: its width (S15), whether it fits (S16), and where a shown text starts (S17).
 use params::TILDE;
 ghost use mathlib.Core.Path.{_≡_};
 ghost use Prim.Native.Nat.{_+_, _≤_, min};

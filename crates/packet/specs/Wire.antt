@@ -1,4 +1,4 @@
--- What stands on the wire: the layout of "The packet" in 01, byte by byte.
+-- What stands on the wire, byte by byte: rules W1 to W7, W10, and W14 to W16.
 use Prim.Native.Nat.{ℕ, zero, suc, _+_, _-_, _*_, _/_, _%_}
 use mathlib.Core.List.{List, [], _∷_, _++_}
 use mathlib.Core.Bool.{Bool}

@@ -1,4 +1,4 @@
--- Writing: numbers 31 to 34 of 01 in their order, and what a writer lays into the lent buffer.
+-- Writing: N31 to N34 in the order of W18, and what a writer lays into the lent buffer (W13 and W15 to W17).
 use Prim.Native.Nat.{ℕ, zero, suc, _+_}
 use mathlib.Core.Path.{_≡_}
 use mathlib.Core.List.{List, [], _∷_}
@@ -17,8 +17,7 @@ use Rattle.packet.specs.declared.write.Written.the-variants.{Wrote, Refu
 abbrev pub badBody : List ℕ → Bool
 badBody body = eqb (length body) 0 or ltb 84 (length body)
 
--- the fields of a normal packet, with the count of its data bytes: "IDs 00h to 3Fh carry 1 to 14 data bytes", "N is 1 to 6, position
--- below N", "All packets but the last carry 14 data bytes"
+-- the fields of a normal packet, with the count of its data bytes: rules W3 to W5
 abbrev pub rightFields : (id total position count : ℕ) → Bool
 rightFields id total position count =
     leb id 0x3F and within 1 count 14 and within 1 total 6 and ltb position total and (eqb (position + 1) total or eqb count 14)
@@ -65,7 +64,7 @@ pub record Writes (rows : List Row) (bytes out : List ℕ) (answer : Written) (a
   pub answered : answer ≡ answerOf (firstOf rows) bytes
   pub left : after ≡ bufferOf (firstOf rows) bytes out
 
--- the answer in 01's numbers: the count of bytes written
+-- the answer in the rules' numbers: the count of bytes written
 abbrev pub toldOf : Written → Told
 toldOf (Wrote n) = yes (n ∷ [])
 toldOf (Refused n) = no n

@@ -1,7 +1,7 @@
-// The wire: one packet written ("The packet" and number 34 of 01). The crate `transmission` writes a body as packets, `reader` reads
-// packets, and `reply` writes and reads the sign's answer.
-//   sum     the sum by additions that drop the carry, and the byte that brings it to 0
-//   write   a normal packet of given fields, a query, a reset
+// The wire: one packet written. The crate `transmission` writes a body as packets, `reader` reads packets, and `reply`
+// writes and reads the sign's answer.
+//   sum     the sum by additions that drop the carry, and the byte that brings it to 0      W7, P8
+//   write   a normal packet of given fields, a query, a reset                               W1 to W6, W13, N34
 mod sum;
 mod write;
 

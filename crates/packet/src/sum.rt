@@ -1,4 +1,4 @@
-// The checksum ("makes the sum of all bytes 0 modulo 256, by additions that drop the carry").
+// The checksum: rule W7, in the form of P8.
 ghost use mathlib.Core.Path.{_≡_};
 ghost use Prim.Native.Nat.{_-_, _%_};
 ghost use Rattle.basis.specs.Bytes.{sum};

@@ -1,5 +1,5 @@
-// Writes one normal packet of given fields, a query or a reset, into a lent buffer ("The writer gives ..", number 34). A refusal changes no
-// byte, and bytes past the written ones stay.
+// Writes one normal packet of given fields, a query or a reset, into a lent buffer: W1 to W6, W13 and N34. A refusal
+// changes no byte, and bytes after the written ones stay.
 use crate::sum::negated;
 ghost use mathlib.Core.Path.{_≡_};
 ghost use mathlib.Core.List.{[], _∷_};

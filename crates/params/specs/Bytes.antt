@@ -1,5 +1,4 @@
--- The two bytes that the command language names, and what a parameter is.
--- 01: "each starting with a caret (5Eh), which never occurs in text. Text runs to the next caret or the end."
+-- The two bytes that the command language names, caret (L1) and tilde (L5), and what a parameter is (L2).
 use Prim.Native.Nat.{ℕ}
 use mathlib.Core.List.{List, [], _∷_}
 use lib.Dec.{eqb}

@@ -1,6 +1,5 @@
 -- What a right number is: digits alone, one at least, not more of them than the command takes, and a value in its range.
--- 01: "A number runs to the next caret or the end, and leading zeros count as digits." 23: "anything but a right number
--- between letters and next caret or end", at the command's caret.
+-- Rule L8, and N23 at the command's caret.
 use Prim.Native.Nat.{ℕ, _+_, _*_, _-_}
 use mathlib.Core.List.{List, [], _∷_}
 use mathlib.Core.Bool.{Bool, true}

@@ -1,6 +1,4 @@
--- What a text may hold.
--- 01: "It holds 20h to 7Dh; a tilde followed by one of `B b C c D d G`; and 80h to FFh only directly after `~G` or after
--- another such byte." Its numbers for no: 24 a forbidden byte, at the byte; 25 a tilde without its letter, at the tilde.
+-- What a text may hold (L4 to L6), and how it is refused: N24 at the byte, N25 at the tilde.
 use Prim.Native.Nat.{ℕ, _+_}
 use mathlib.Core.List.{List, [], _∷_}
 use mathlib.Core.Bool.{Bool}

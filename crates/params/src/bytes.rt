@@ -1,6 +1,5 @@
-// The byte at a place, the kind of a byte within a text, and the letters that a tilde takes.
-// Answers to 01: "It holds 20h to 7Dh; a tilde followed by one of `B b C c D d G`; and 80h to FFh only directly after `~G`
-// or after another such byte."
+// The byte at a place, the kind of a byte within a text (L4), the letters that a tilde takes (L5), and where a graphic
+// byte may be (L6).
 use crate::ByteKind;
 ghost use mathlib.Core.Path.{_≡_};
 ghost use Prim.Native.Nat.{_+_, _<_};

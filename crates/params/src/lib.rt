@@ -1,8 +1,8 @@
-// What follows the letters of a command (01, "The program"): a text or a number, read from a place of a body. No call has a
+// What follows the letters of a command (L3): a text or a number, read from a place of a body. No call has a
 // `requires`; each answers for any bytes and any place.
-//   bytes      the byte at a place, and what kind a text's byte is      "It holds 20h to 7Dh; a tilde followed by one of .."
-//   text       a text's bytes up to its end                             "Text runs to the next caret or the end"
-//   number     one reader for every number                              "A number runs to the next caret or the end, .."
+//   bytes      the byte at a place, and what kind a text's byte is      L4 to L6
+//   text       a text's bytes up to its end                             L2, L4 to L6, N24, N25
+//   number     one reader for every number                              L2, L8, N23
 // The definitions that the contracts cite stand in specs/ under the same names.
 mod bytes;
 mod number;

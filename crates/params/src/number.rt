@@ -1,5 +1,4 @@
-// The one reader of numbers. Answers to 01: "A number runs to the next caret or the end, and leading zeros count as digits",
-// and the refusal 23: "anything but a right number between letters and next caret or end".
+// The one reader of numbers: rules L2 and L8, and N23.
 use crate::Parameter;
 use crate::bytes::CARET;
 use crate::bytes::byte_at;

@@ -1,4 +1,4 @@
-// A text read to its end. Answers to 01: "Text runs to the next caret or the end", and the refusals 24 and 25.
+// A text read to its end (L2, L4 to L6), or refused with N24 or N25.
 use crate::Parameter;
 use crate::bytes::CARET;
 use crate::bytes::byte_at;

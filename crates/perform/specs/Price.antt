@@ -1,7 +1,5 @@
--- What a command answers when it is performed, and its price.
--- 01: "its kind (`S` for an `I` that scrolls), its number as written, its text's place and length in the body, start column, scans
--- and milliseconds; what a command lacks is 0, a scroll's start column too"; "`S` with width 0 costs nothing. Otherwise it makes
--- width + 96 shifts of k scans each. `IA` and `IB` take 7 scans. .. `W` n is 100n ms and no scans. All else is 0."
+-- What a command answers when it is performed (S1 to S5, S17, S18), and its price in scans (S19) and milliseconds (S20,
+-- S21).
 use Prim.Native.Nat.{ℕ, _*_}
 use lib.Dec.{eqb}
 use Rattle.basis.specs.Choice.{when}

@@ -1,6 +1,4 @@
--- What a sign is set to, what of it a command changes, and which settings are in range.
--- 01: "Pace and scan setting last until changed or reset"; "`XB`: above 31 acts as 31, 0 and 1 end forcing"; of a sound record
--- "pace, scans, threshold in range, brightness 0 or 2 to 31".
+-- What a sign is set to, what a command changes of it (S13, L17, L18, L20 to L23), and which values are in range (R3).
 use Prim.Native.Nat.{ℕ}
 use mathlib.Core.Bool.{Bool}
 use lib.Dec.{eqb, ltb, leb}

@@ -1,6 +1,6 @@
-// One command performed ("One step, and what it costs"): the settings behind it, and what the step answers.
-//   settings   what a sign is set to, and how a command changes it     "Pace and scan setting last until changed or reset"
-//   price      what a command answers at given settings                "A step performs one command and answers .."
+// One command performed: the settings after it, and what the step answers.
+//   settings   what a sign is set to, and how a command changes it     S13, R3
+//   price      what a command answers at given settings                S1 to S5, S17 to S21
 mod price;
 mod settings;
 

@@ -1,5 +1,4 @@
-// What a command answers when it is performed, with its price in scans and milliseconds. Answers to 01: "A step performs one
-// command and answers its kind ..", "`S` with width 0 costs nothing. ..".
+// What a command answers when it is performed (S1 to S5, S18), with its price in scans (S19) and milliseconds (S20).
 use crate::Settings;
 use measure::fits;
 use measure::start_column;

@@ -1,5 +1,4 @@
-// What a sign is set to, and how a command changes it. Answers to 01: "Pace and scan setting last until changed or reset", and
-// the table's `P`, `=`, `XS`, `XF`, `XD`, `XB`.
+// What a sign is set to (R3), and how `P`, `=`, `XS`, `XF`, `XD` and `XB` change it (S13, L17, L18, L20 to L23).
 use program::Kind;
 ghost use mathlib.Core.Path.{_≡_};
 ghost use Rattle.perform.specs.Settings.{soundOf, behindOf, forcedOf};

@@ -1,4 +1,4 @@
--- A command's kind in 01's letters, and by number.
+-- A command's kind (S2) in the letters of L9 to L24, and by number.
 use Prim.Native.Nat.{ℕ}
 use mathlib.Core.List.{List, [], _∷_}
 use Rattle.program.specs.declared.Kind.{Kind}
@@ -23,7 +23,7 @@ lettersOf XD = 0x58 ∷ 0x44 ∷ []
 lettersOf XB = 0x58 ∷ 0x42 ∷ []
 lettersOf Y = 0x59 ∷ []
 
--- a command by number, in the order of 01's table
+-- a command by number, in the order of `table` in specs/Table, which include/yurodekapi.h has too
 abbrev pub kindOf : Kind → ℕ
 kindOf II = 1
 kindOf IA = 2

@@ -1,6 +1,5 @@
 -- One command at a place of a body, or its refusal: a grammar over what is left of the body from that place on.
--- 01's table of commands, and its numbers for no: 22 unknown or cut off, 23 no right number, both at the caret; 24 a byte that
--- may not stand there, at the byte; 25 a tilde without its letter, at the tilde.
+-- Rules L2 and L3 for the command and its parameter, S3 and S4 for its values, N22 to N25 for refusals and their place.
 use Prim.Native.Nat.{ℕ, _+_, _-_}
 use mathlib.Core.List.{List, [], _∷_}
 use lib.ListN.{drop}

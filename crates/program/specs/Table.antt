@@ -1,4 +1,4 @@
--- The table of commands of 01: the letters behind the caret, the kind, and the form of the parameter.
+-- The table of commands, L9 to L24: the letters after the caret, the kind, and the form of the parameter (L3).
 use Prim.Native.Nat.{ℕ}
 use mathlib.Core.List.{List, [], _∷_}
 use mathlib.Core.Bool.{Bool, true, false}

@@ -1,7 +1,8 @@
-// The command language (01, "The program"): one command read at a place of a body. The crate `params` reads what follows its
-// letters, `measure` measures a text, and `judge` judges a whole body. No call has a `requires`; each answers for any bytes and any place.
-//   table      the letters of each command and its form                 the table of commands
-//   reader     one command at a place, or its refusal 22 to 25          the table, and "Numbers for no"
+// The command language: one command read at a place of a body. The crate `params` reads what follows its letters,
+// `measure` measures a text, and `judge` judges a whole body. No call has a `requires`; each answers for any bytes and
+// any place.
+//   table      the letters of each command and its form                 L9 to L24
+//   reader     one command at a place, or its refusal 22 to 25          L2, L3, N22 to N25
 // The definitions that the contracts cite stand in specs/ under the same names.
 mod reader;
 mod table;

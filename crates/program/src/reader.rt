@@ -1,5 +1,5 @@
-// One command at a place of a body: its kind, number as written, text place and length and the place behind it, or the
-// refusal 22 to 25 and its place. Answers to 01's table of commands and "Numbers for no".
+// One command at a place of a body: its kind, number as written, text place and length and the place after it (L2, L3),
+// or the refusal 22 to 25 and its place (N22 to N25).
 use crate::Command;
 use crate::Form;
 use crate::Kind;

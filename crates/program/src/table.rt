@@ -1,4 +1,4 @@
-// The letters of each command and the form of its parameter: the table of commands in 01.
+// The letters of each command and the form of its parameter: rules L9 to L24.
 use crate::Form;
 use crate::Kind;
 use crate::Row;

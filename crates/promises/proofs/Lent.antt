@@ -1,5 +1,6 @@
--- One outcome, of the calls for C: any two outcomes that a contract allows are equal, of the result, the image and every lent byte; of what they are
--- told by; and of the image both ways. Stated over the contract as the prover reads it, as in Outcome.
+-- One outcome (P1, P2), of the calls for C: any two outcomes that a contract allows are equal, of the result, the image
+-- and every lent byte; of what they are told by; and of the image both ways. Stated over the contract as the prover
+-- reads it, as in Outcome.
 use mathlib.Core.Path.{_≡_}
 use denote.Ref.{now}
 use contract.Lifetimes
@@ -88,6 +89,9 @@ use Rattle.cabi.proofs.yd_copy_body.Reads as cabi-yd-copy-body-reads
 use Rattle.cabi.proofs.yd_repeat as cabi-yd-repeat
 use Rattle.cabi.proofs.yd_repeat.Kinds as cabi-yd-repeat-kinds
 use Rattle.cabi.proofs.yd_repeat.Reads as cabi-yd-repeat-reads
+use Rattle.cabi.proofs.yd_version as cabi-yd-version
+use Rattle.cabi.proofs.yd_version.Kinds as cabi-yd-version-kinds
+use Rattle.cabi.proofs.yd_version.Reads as cabi-yd-version-reads
 
 pub one-repeater-shows : (κs : Lifetimes.Lfts 1) (a : World.ArgsD repeater-shows.signature κs) (r r′ : World.ResD repeater-shows.signature κs)
     (s s′ : Clauses.AtExit (K.endedOf 1 repeater-shows-kinds.ps repeater-shows-kinds.r) κs) → repeater-shows-reads.Post κs a r s → repeater-shows-reads.Post κs a r′ s′
@@ -223,3 +227,8 @@ pub one-cabi-yd-repeat : (κs : Lifetimes.Lfts 1) (a : World.ArgsD cabi-yd-repea
     (s s′ : Clauses.AtExit (K.endedOf 1 cabi-yd-repeat-kinds.ps cabi-yd-repeat-kinds.r) κs) → cabi-yd-repeat-reads.Post κs a r s → cabi-yd-repeat-reads.Post κs a r′ s′
     → r ≡ r′
 one-cabi-yd-repeat κs a r r′ s s′ h h′ = one h h′
+
+pub one-cabi-yd-version : (κs : Lifetimes.Lfts 0) (a : World.ArgsD cabi-yd-version.signature κs) (r r′ : World.ResD cabi-yd-version.signature κs)
+    (s s′ : Clauses.AtExit (K.endedOf 0 cabi-yd-version-kinds.ps cabi-yd-version-kinds.r) κs) → cabi-yd-version-reads.Post κs a r s → cabi-yd-version-reads.Post κs a r′ s′
+    → r ≡ r′
+one-cabi-yd-version κs a r r′ s s′ h h′ = one h h′

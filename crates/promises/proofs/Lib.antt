@@ -1,4 +1,5 @@
 pub mod Bench
+pub mod Contracts
 pub mod Delivery
 pub mod Dispatch
 pub mod Lent

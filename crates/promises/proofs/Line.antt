@@ -1,8 +1,8 @@
 -- Ours keeps the promise of the line.
-use Prim.Native.Nat.{ℕ, zero, suc, _≤_, _<_}
+use Prim.Native.Nat.{ℕ, _^_, _<_}
 use mathlib.Core.Bool.{Bool, true, false}
 use mathlib.Core.List.{List, [], _∷_}
-use mathlib.Core.Path.{_≡_, refl, sym, ap, _∙_}
+use mathlib.Core.Path.{_≡_, refl, sym, ap, _∙_, subst}
 use native.Mathlib.Omega.{arith}
 use lib.ListN.{length, take}
 use Rattle.basis.specs.Told.{Told, noAt}
@@ -16,9 +16,12 @@ use Rattle.judge.specs.declared.Verdict.the-variants.{Finite, Endless, Refused 
 use Rattle.grammar.proofs.Grammars.{described-accepted}
 use Rattle.grammar.proofs.Refusals.{first-refused}
 use Rattle.room.specs.Room.{roomOf}
-use Rattle.reckon.specs.Forecast.{talliesOf, settingsAt, outOfRange, byVerdict, forecastOf, toldOf as forecastTold}
+use Rattle.reckon.specs.Forecast.{talliesOf, settledOf, settingsAt, outOfRange, byVerdict, forecastOf, toldOf as forecastTold}
 use Rattle.reckon.specs.declared.reckon.Foretold.the-variants.{Refused as RefusedForecast}
+use Rattle.course.specs.Price.{scans, millis}
+use Rattle.course.proofs.Theorem.{finite-ends}
 use Rattle.reckon.proofs.Demand.{forecast-holds, forecast-never}
+use Rattle.reckon.proofs.Small.{scans-fit, millis-fit}
 use Rattle.machine.specs.Line.{lineOf, roundsOf, performed}
 use Rattle.machine.specs.Step.{startedOf, toldOf as answerTold}
 use Rattle.machine.specs.declared.Answer.{Answer}
@@ -64,7 +67,10 @@ no-program : (b : List ℕ) (pace each n p : ℕ) → outOfRange pace each ≡ f
 unfolding forecastOf
 no-program b pace each n p h e =
     when-false (outOfRange pace each) (RefusedForecast 17 0) _ h
-    ∙ ap (λ (v : Verdict). byVerdict v (talliesOf (roomOf b) (startedOf (length b) (settingsAt pace each)))) e
+    ∙ ap
+    (λ (v : Verdict).
+    byVerdict v (talliesOf (roomOf b) (startedOf (length b) (settingsAt pace each))) (settledOf (roomOf b) (startedOf (length b) (settingsAt pace each))))
+    e
 
 -- the settings that a started line has are sound
 pub started-set : (s : Sign) (b : List ℕ) (σ : Settings) → Started ours s b σ → soundOf σ ≡ true
@@ -87,6 +93,9 @@ module _ (s : Sign) (b : List ℕ) (σ : Settings) (a : Started ours s b σ) (mi
             said-is mid (thenStep es) s
             ∙ ap allTold (quiet-line-then mid es s b σ (a .good) (a .room) (a .run) set e quiet (omega arith) .said (steps-then es ∙ all))
             ∙ performed-told (lineOf b σ);
+        leaves = λ es quiet all.
+            ap (λ (t : Sign). t .run .settings) (after-is mid (thenStep es) s)
+            ∙ quiet-line-then mid es s b σ (a .good) (a .room) (a .run) set e quiet (omega arith) .leaves (steps-then es ∙ all);
       }
 
   pub goes : judgeOf b ≡ Endless → Goes ours s b σ mid
@@ -111,6 +120,11 @@ ours-runs =
       foretold = λ b σ set e. ap forecastTold (forecast-holds b σ set e);
       never = λ b σ set e. ap forecastTold (forecast-never b σ set e);
       most = λ b σ set e. line-ends b e σ set .most;
+      fits = λ b σ set e.
+          let x = finite-ends b e σ in (
+            subst (λ (n : ℕ). n < 2 ^ 32) (sym (x .adds-up scans)) (scans-fit b e σ set),
+            subst (λ (n : ℕ). n < 2 ^ 32) (sym (x .adds-up millis)) (millis-fit b e σ set),
+          );
       finite = λ s b σ a e mid. runs s b σ a mid e;
       endless = λ s b σ a e mid. goes s b σ a mid e;
     }

@@ -1,5 +1,5 @@
--- One outcome: for each public call, any two outcomes that its contract allows are equal, of the answer and of every lent byte. It is
--- stated over the contract as the prover reads it (`Post`), so no copy of a contract can drift from it.
+-- One outcome (P1, P2): for each public call, any two outcomes that its contract allows are equal, of the answer and of
+-- every lent byte. It is stated over the contract as the prover reads it (`Post`), so no copy of a contract can drift.
 use mathlib.Core.Path.{_≡_, sym, ap, _∙_}
 use denote.Ref.{now}
 use contract.Lifetimes

@@ -1,4 +1,4 @@
--- An answer in 01's numbers names the answer: two that are told alike are one.
+-- An answer in the rules' numbers names the answer: two that are told alike are one.
 use Prim.Native.Nat.{ℕ}
 use mathlib.Core.Bool.{Bool, true, false}
 use mathlib.Core.Path.{_≡_, refl, ap, _∙_}
@@ -66,3 +66,8 @@ pub finite-told : (x : Verdict) → verdictTold x ≡ verdictTold Finite → x �
 finite-told Finite e = refl
 finite-told Endless e = let n : _≡_ {A = ℕ} 1 0 = ap (valueAt 0) e in absurd (omega arith)
 finite-told (NoProgram n p) e = let n : _≡_ {A = ℕ} 0 1 = ap (λ (t : Told). length (t .values)) e in absurd (omega arith)
+
+pub endless-told : (x : Verdict) → verdictTold x ≡ verdictTold Endless → x ≡ Endless
+endless-told Endless e = refl
+endless-told Finite e = let n : _≡_ {A = ℕ} 0 1 = ap (valueAt 0) e in absurd (omega arith)
+endless-told (NoProgram n p) e = let n : _≡_ {A = ℕ} 0 1 = ap (valueAt 0) e in absurd (omega arith)

@@ -19,6 +19,7 @@ use Rattle.packet.proofs.Fields.{right-parts}
 use Rattle.packet.proofs.Parts.{part-length}
 use Rattle.packet.proofs.Stands.{at-length, part-stands}
 use Rattle.reader.specs.Read.{readOf, toldOf as readTold}
+use Rattle.reader.specs.declared.read.Reading.{Reading}
 use Rattle.reader.proofs.ReadBack.{query-reads, reset-reads, packet-reads, body-reads}
 use Rattle.reader.proofs.Unique.{normal-only, same-fields, query-only, reset-only}
 use Rattle.reader.proofs.Refusals.{refused-lowest, lowest-refused, no-packet}
@@ -28,6 +29,7 @@ use Rattle.reply.specs.declared.Status.the-variants.{Heard, Refused as Unheard}
 use Rattle.reply.proofs.Replies.{reply-reads, reply-only, same-reply}
 use Rattle.promises.specs.Unit.{leftBy, ours}
 use Rattle.promises.specs.Wire.{ReadsBack, HearsBack, Lays, Reads, Hears, Writes, WireHolds}
+use Rattle.promises.proofs.Yes.{read-no}
 use Rattle.promises.proofs.Tellings.{query-told, reset-told, normal-told, refused-told, heard-told}
 
 module _ (mid id : ℕ) (body : List ℕ) (position : ℕ) (out : List ℕ) (normal : id ≤ 0x3F) (some : 1 ≤ length body) (most : length body ≤ 84)
@@ -85,7 +87,10 @@ module _ (mid last : ℕ) (busy sink : Bool) (out : List ℕ) (known : isLast la
         count = ap (λ (k : ℕ). writtenTold (answerOf k p)) free;
         told = ap (λ (x : List ℕ). statusTold (heardOf mid x)) front ∙ ap statusTold (reply-reads mid last busy sink known);
         behind = ap (drop 8) laying ∙ drop-laid p out;
-        apart = λ m. ap (λ (x : List ℕ). readTold (readOf m x)) front ∙ ap readTold (no-packet m mid last busy sink);
+        apart = λ m z.
+            let e = no-packet m mid last busy sink in
+            let n = sym (ap (λ (x : List ℕ). readTold (readOf m x) .number) front ∙ ap (λ (x : Reading). readTold x .number) e) ∙ z in
+            omega (arith, read-no m (replyOf mid last busy sink) _ e);
       }
 
 pub ours-reads : Reads ours

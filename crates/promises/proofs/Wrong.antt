@@ -42,7 +42,7 @@ use Rattle.promises.specs.Bench.{hi, w5}
 use Rattle.promises.specs.Unit.{Wrote, ours}
 use Rattle.promises.specs.Dispatch.{valueAt}
 use Rattle.promises.specs.Keeps.{Keeps}
-use Rattle.promises.specs.Wrong.{refusing, eager, noisy, rumour, hearsay, idle, scribbling, trusting, madeUp, inventing, lenient, atOnce, fixed, startingOver, shaken, forgetful, agreeable, deaf, orderly, surly, jumpy, frozen, sulking, rosy, mute, parrot, encore, counting}
+use Rattle.promises.specs.Wrong.{refusing, eager, noisy, rumour, hearsay, idle, scribbling, trusting, madeUp, inventing, lenient, atOnce, fixed, startingOver, shaken, forgetful, agreeable, deaf, orderly, surly, jumpy, frozen, sulking, drowsy, rosy, mute, parrot, encore, counting}
 use Rattle.promises.proofs.Pins.{no-other-unit}
 
 -- the settings that a sign is set to when it is switched on
@@ -129,13 +129,13 @@ trusting-fails k =
     let n : _≡_ {A = ℕ} 0 21 = ap (λ (t : Told). t .number) (no-other-unit trusting k .judge []) in
     omega arith
 
-foretold-w5 : forecastOf w5 4 1 ≡ Ends (totalsOf 1 0 500)
+foretold-w5 : forecastOf w5 4 1 ≡ Ends (totalsOf 1 0 500) 4 1
 unfolding usual commandAt judgeOf settingsSound answerOf
 foretold-w5 = forecast-holds w5 usual refl refl
 
 pub inventing-fails : Keeps inventing → ⊥
 inventing-fails k =
-    let e : madeUp (forecastOf w5 4 1) ≡ Ends (totalsOf 1 1 500) = ap madeUp foretold-w5 in
+    let e : madeUp (forecastOf w5 4 1) ≡ Ends (totalsOf 1 1 500) 4 1 = ap madeUp foretold-w5 in
     let n : _≡_ {A = ℕ} 1 0 =
     sym (ap (λ (f : Foretold). valueAt 2 (forecastTold f)) e)
     ∙ ap (valueAt 2) (no-other-unit inventing k .forecast w5 4 1)
@@ -233,6 +233,20 @@ pub sulking-fails : Keeps sulking → ⊥
 unfolding shows again freshOf readyOf startedOf clearedOf stepOf runStep settle answerOf receiveOf joinOf releaseOf staysOf soundOf runSound collectionSound judgeOf commandAt settingsSound roomOf slotsOf heldOf joinedOf sameOf begunOf storedOf standOf laid sum packetOf partOf packetsOf replyOf readOf heardOf repeatOf
 sulking-fails k =
     let n : _≡_ {A = ℕ} 16 0 = ap (λ (t : Told). t .number) (no-other-unit sulking k .step (shows again) roomy-again .told) in
+    omega arith
+
+-- a sign whose line has ended
+ended : Sign
+ended = ours .step (shows w5) .next
+
+roomy-ended : Roomy ended
+unfolding ended shows freshOf readyOf startedOf clearedOf stepOf runStep settle answerOf receiveOf joinOf releaseOf staysOf soundOf runSound collectionSound judgeOf commandAt settingsSound roomOf slotsOf heldOf joinedOf sameOf begunOf storedOf standOf laid sum packetOf partOf packetsOf replyOf readOf heardOf repeatOf
+roomy-ended = record { lens = refl; room = refl }
+
+pub drowsy-fails : Keeps drowsy → ⊥
+unfolding ended shows freshOf readyOf startedOf clearedOf stepOf runStep settle answerOf receiveOf joinOf releaseOf staysOf soundOf runSound collectionSound judgeOf commandAt settingsSound roomOf slotsOf heldOf joinedOf sameOf begunOf storedOf standOf laid sum packetOf partOf packetsOf replyOf readOf heardOf repeatOf
+drowsy-fails k =
+    let n : _≡_ {A = ℕ} 0x41 5 = ap (λ (s : Sign). s .last) (no-other-unit drowsy k .step ended roomy-ended .next) in
     omega arith
 
 pub rosy-fails : Keeps rosy → ⊥

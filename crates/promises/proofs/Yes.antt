@@ -40,8 +40,9 @@ use Rattle.machine.specs.Step.{stateOf, runOf, sayOf, startedOf, stepOf as runS
 use Rattle.machine.specs.declared.Answer.the-variants.{Idle, Refused as NoStep}
 use Rattle.machine.specs.declared.Run.{Run}
 use Rattle.machine.specs.declared.Stepped.{Stepped as RunStepped}
-use Rattle.reckon.specs.Forecast.{talliesOf, settingsAt, outOfRange, byVerdict, forecastOf}
+use Rattle.reckon.specs.Forecast.{talliesOf, settledOf, settingsAt, outOfRange, byVerdict, forecastOf}
 use Rattle.reckon.specs.declared.reckon.Foretold.the-variants.{Refused as NoForecast}
+use Rattle.perform.specs.declared.settings.Settings.{Settings}
 use Rattle.totals.specs.declared.Totals.{Totals}
 use Rattle.room.specs.Room.{roomOf}
 use Rattle.collect.specs.Slots.{Collection, heldOf, sameOf, begunOf, storedOf}
@@ -164,14 +165,14 @@ pub forecast-no : (b : List ℕ) (pace each n q : ℕ) → forecastOf b pace eac
 unfolding forecastOf
 forecast-no b pace each n q e = go (outOfRange pace each) e
   where
-    by : (v : Verdict) (t : Totals) → judgeOf b ≡ v → byVerdict v t ≡ NoForecast n q → 0 < n
-    by Finite t w k = let z : _≡_ {A = ℕ} 0 1 = cc in absurd (omega arith)
-    by Endless t w k = let z : _≡_ {A = ℕ} 0 1 = cc in absurd (omega arith)
-    by (NoProgram m r) t w k = let a : m ≡ n = cc in let h = judge-no b m r w in omega arith
+    by : (v : Verdict) (t : Totals) (σ : Settings) → judgeOf b ≡ v → byVerdict v t σ ≡ NoForecast n q → 0 < n
+    by Finite t σ w k = let z : _≡_ {A = ℕ} 0 1 = cc in absurd (omega arith)
+    by Endless t σ w k = let z : _≡_ {A = ℕ} 0 1 = cc in absurd (omega arith)
+    by (NoProgram m r) t σ w k = let a : m ≡ n = cc in let h = judge-no b m r w in omega arith
 
-    go : (t : Bool) → when t (NoForecast 17 0) (byVerdict (judgeOf b) (talliesOf (roomOf b) (startedOf (length b) (settingsAt pace each)))) ≡ NoForecast n q → 0 < n
+    go : (t : Bool) → when t (NoForecast 17 0) (byVerdict (judgeOf b) (talliesOf (roomOf b) (startedOf (length b) (settingsAt pace each))) (settledOf (roomOf b) (startedOf (length b) (settingsAt pace each)))) ≡ NoForecast n q → 0 < n
     go true w = let z : 17 ≡ n = cc in omega arith
-    go false w = by (judgeOf b) _ refl w
+    go false w = by (judgeOf b) _ _ refl w
 
 -- a refused step, and a refused reset, are 16
 run-no : (room : List ℕ) (r : Run) (n : ℕ) → runStep room r .answer ≡ NoStep n → 0 < n

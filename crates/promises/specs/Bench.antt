@@ -1,4 +1,4 @@
--- The examples that 01 marks with a star, as one table under one statement.
+-- The examples that the rules mark with a star, as one table under one statement (P5).
 use Prim.Native.Nat.{ℕ}
 use mathlib.Core.Bool.{false}
 use mathlib.Core.List.{List, [], _∷_}
@@ -72,9 +72,9 @@ tilde = 0x5E ∷ 0x49 ∷ 0x49 ∷ 0x61 ∷ 0x7E ∷ 0x78 ∷ []
 abbrev pub unclosed : List ℕ
 unclosed = 0x5E ∷ 0x4C ∷ 0x31 ∷ 0x5E ∷ 0x57 ∷ 0x31 ∷ []
 
--- steps, scans, milliseconds
-abbrev pub costs : ℕ → ℕ → ℕ → Foretold
-costs a b c = Ends (totalsOf a b c)
+-- steps, scans, milliseconds, and the pace and scan setting left
+abbrev pub costs : (steps scans millis pace each : ℕ) → Foretold
+costs steps scans millis pace each = Ends (totalsOf steps scans millis) pace each
 
 abbrev pub starred : List Example
 starred =
@@ -84,11 +84,11 @@ starred =
     ∷ carries (0x80 ∷ 0x7F ∷ 0x07 ∷ 0x40 ∷ 0x10 ∷ 0x00 ∷ 0xAA ∷ []) (queryOf 0x80)
     ∷ carries (0x80 ∷ 0x7F ∷ 0x07 ∷ 0x41 ∷ 0x10 ∷ 0x00 ∷ 0xA9 ∷ []) (resetOf 0x80)
     ∷ carries (0x81 ∷ 0x7F ∷ 0x08 ∷ 0x41 ∷ 0x52 ∷ 0x46 ∷ 0x00 ∷ 0x1F ∷ []) (saysOf powerOn 0x80 false)
-    ∷ foretells w5 (costs 1 0 500)
-    ∷ foretells l3w2e (costs 7 0 600)
-    ∷ foretells shi (costs 1 108 2400)
-    ∷ foretells s (costs 1 0 0)
-    ∷ foretells slow (costs 3 612 20400)
+    ∷ foretells w5 (costs 1 0 500 4 1)
+    ∷ foretells l3w2e (costs 7 0 600 4 1)
+    ∷ foretells shi (costs 1 108 2400 4 1)
+    ∷ foretells s (costs 1 0 0 4 1)
+    ∷ foretells slow (costs 3 612 20400 1 6)
     ∷ judges nested (RefusedBody 26 3)
     ∷ judges p21 (RefusedBody 23 0)
     ∷ judges tilde (RefusedBody 25 4)

@@ -1,6 +1,5 @@
--- The delivery: a body written as a transmission, its packets taken out of the buffer by walking over it, and received in order.
--- Demand 2: "A body we write as packets, delivered in order and with nothing between to a sign of that MID, Ready and with a sound record,
--- that isn't collecting that number and hasn't just completed it, is released once, with the same bytes."
+-- The delivery: a body written as a transmission (W16), its packets taken out of the buffer by walking over it, and
+-- received in order. Demand 2, by J9 to J12, and J4 for copies.
 use Prim.Native.Nat.{ℕ, zero, suc, _<_}
 use mathlib.Core.Bool.{Bool}
 use mathlib.Core.List.{List, []}

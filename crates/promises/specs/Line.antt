@@ -1,9 +1,6 @@
--- The line: a started program, its steps and whatever bytes come between them, and its forecast.
--- Demand 3: "An accepted program without an endless ending, started at any legal pace and scan setting and not reset, becomes Ready after
--- exactly the forecast number of steps and not sooner. The scans and milliseconds of those steps add up to the forecast, and the
--- steps never pass 3,961. An endless program is forecast as endless and, unless reset, is never Ready, however many steps it gets.
--- No step of an accepted program is refused."
-use Prim.Native.Nat.{ℕ, suc, _≤_, _<_}
+-- The line: a started program, its steps and whatever bytes come between them, and its forecast. Demand 3, by L28 and
+-- L29 for judging, S22 to S26, S32 and N17 for the forecast, S11 for the end.
+use Prim.Native.Nat.{ℕ, suc, _^_, _≤_, _<_}
 use mathlib.Core.Bool.{true, false}
 use mathlib.Core.List.{List, [], _∷_, _++_}
 use mathlib.Core.Path.{_≡_}
@@ -17,6 +14,7 @@ use Rattle.judge.specs.declared.Verdict.the-variants.{Finite, Endless}
 use Rattle.grammar.specs.Grammar.{Described, acceptedAs}
 use Rattle.grammar.specs.Reach.{Refusal}
 use Rattle.course.specs.Price.{sumBy, scans, millis}
+use Rattle.course.specs.Tree.{treeIn, exitOf}
 use Rattle.reckon.specs.Forecast.{outOfRange, toldOf as forecastTold}
 use Rattle.reckon.specs.declared.reckon.Foretold.the-variants.{Ends, Endless as Never}
 use Rattle.machine.specs.Line.{lineOf, roundsOf}
@@ -59,6 +57,9 @@ pub record Runs {R : Type 0} (u : Calls R) (r : R) (b : List ℕ) (σ : Settings
   pub busy : (es : List Event) → Quiet mid es → stepsIn es < length (lineOf b σ) → u .holds (after u mid es r) .run .len ≡ 0 → ⊥
   pub ready : (es : List Event) → Quiet mid es → suc (stepsIn es) ≡ length (lineOf b σ) → u .holds (after u mid (thenStep es) r) .run .len ≡ 0
   pub answers : (es : List Event) → Quiet mid es → suc (stepsIn es) ≡ length (lineOf b σ) → said u mid (thenStep es) r ≡ toldOfAll (lineOf b σ)
+  -- the sign is then set to what its commands set it to
+  pub leaves : (es : List Event) → Quiet mid es → suc (stepsIn es) ≡ length (lineOf b σ)
+      → u .holds (after u mid (thenStep es) r) .run .settings ≡ exitOf (treeIn b .block) σ
 
 -- and one that never does: Busy after any of them, and its answers are the first of what its rounds perform, however many
 pub record Goes {R : Type 0} (u : Calls R) (r : R) (b : List ℕ) (σ : Settings) (mid : ℕ) : Type 0 where
@@ -69,14 +70,19 @@ pub record LineRuns {R : Type 0} (u : Calls R) : Type 0 where
   -- judging: a program by the grammar is accepted as what it is, and any other body has its first refusal, with number and place
   pub accepts : (b : List ℕ) (endless : _) → Described b endless → u .judge b ≡ verdictTold (acceptedAs endless)
   pub refuses : (b : List ℕ) (n p : ℕ) → Refusal b n p → u .judge b ≡ noAt n p
-  -- the forecast: 17 for a pace or scan setting out of range, then what judging refuses; endless; or the sums over the line's own commands
+  -- the forecast: 17 for a pace or scan setting out of range, then what judging refuses; endless; or the sums over the line's own commands, and
+  -- the pace and scan setting after them
   pub out-of-range : (b : List ℕ) (pace each : ℕ) → outOfRange pace each ≡ true → u .forecast b pace each ≡ noAt 17 0
   pub no-program : (b : List ℕ) (pace each n p : ℕ) → outOfRange pace each ≡ false → Refusal b n p → u .forecast b pace each ≡ noAt n p
   pub foretold : (b : List ℕ) (σ : Settings) → soundOf σ ≡ true → judgeOf b ≡ Finite
       → u .forecast b (σ .pace) (σ .scans)
-      ≡ forecastTold (Ends (totalsOf (length (lineOf b σ)) (sumBy scans (lineOf b σ)) (sumBy millis (lineOf b σ))))
+      ≡ forecastTold
+      (Ends (totalsOf (length (lineOf b σ)) (sumBy scans (lineOf b σ)) (sumBy millis (lineOf b σ))) (exitOf (treeIn b .block) σ .pace)
+      (exitOf (treeIn b .block) σ .scans))
   pub never : (b : List ℕ) (σ : Settings) → soundOf σ ≡ true → judgeOf b ≡ Endless → u .forecast b (σ .pace) (σ .scans) ≡ forecastTold Never
   pub most : (b : List ℕ) (σ : Settings) → soundOf σ ≡ true → judgeOf b ≡ Finite → length (lineOf b σ) ≤ 3961
+  pub fits : (b : List ℕ) (σ : Settings) → soundOf σ ≡ true → judgeOf b ≡ Finite
+      → (sumBy scans (lineOf b σ) < 2 ^ 32) × (sumBy millis (lineOf b σ) < 2 ^ 32)
   -- the runs
   pub finite : (r : R) (b : List ℕ) (σ : Settings) → Started u r b σ → judgeOf b ≡ Finite → (mid : ℕ) → Runs u r b σ mid
   pub endless : (r : R) (b : List ℕ) (σ : Settings) → Started u r b σ → judgeOf b ≡ Endless → (mid : ℕ) → Goes u r b σ mid

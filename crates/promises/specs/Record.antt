@@ -1,5 +1,5 @@
--- The record: the rules of joining one by one, what power-on and a reset leave, and what a sign tells of itself.
--- 01, "Joining", and "One call copies the running body".
+-- The record: joining, rule by rule (J2 to J13), what a reset (J14) and power-on (J15) leave, a step (S1, S12), and
+-- what a sign tells of itself: the reply (J16), the copy of the running body (S28), and the repeater's part (S29, S30).
 use Prim.Native.Nat.{ℕ, _+_, _≤_, _<_}
 use mathlib.Core.Bool.{Bool, true, false}
 use mathlib.Core.List.{List, [], _∷_}

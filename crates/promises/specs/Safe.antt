@@ -1,4 +1,5 @@
--- Demand 1: no packet, program, record or buffer trips a unit. What it asks of a refusal: no record and no lent byte changes.
+-- Demand 1: no packet, program, record or buffer trips a unit. A refusal changes no record and no lent byte (N0, J2),
+-- and a record that isn't sound is 16 (R1, N16).
 use Prim.Native.Nat.{ℕ}
 use mathlib.Core.Bool.{Bool, false}
 use mathlib.Core.List.{List, []}

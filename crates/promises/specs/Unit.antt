@@ -1,5 +1,6 @@
--- A message unit: all its public calls, as any implementation has them, whatever its record is made of. Every promise is a statement over
--- such a unit, in the numbers and values that `toldOf` gives each answer.
+-- A message unit: the calls of both ends of the line, as any implementation has them, whatever its record is made of.
+-- Every promise is a statement over such a unit, in the numbers and values that `toldOf` gives each answer (P13). A MID
+-- is the caller's (W8). MIDs, IDs and positions are numbers of any size, as in the definitions; the code's are bytes.
 use Prim.Native.Nat.{ℕ}
 use mathlib.Core.Bool.{Bool}
 use mathlib.Core.List.{List, [], _∷_}
@@ -41,7 +42,7 @@ pub record Heard (R : Type 0) : Type 0 where
   pub body : List ℕ
 
 pub record Calls (R : Type 0) : Type 0 where
-  -- what a record holds, in 01's terms
+  -- what a record holds: the parts of J1
   pub holds : R → Sign
   -- the two readers
   pub read : (mid : ℕ) (bytes : List ℕ) → Told
@@ -69,7 +70,7 @@ pub record Calls (R : Type 0) : Type 0 where
 abbrev pub leftBy : List Row → (bytes out : List ℕ) → Wrote
 leftBy rows bytes out = record { told = writtenTold (answerOf (firstOf rows) bytes); buffer = bufferOf (firstOf rows) bytes out }
 
--- our answers in 01's numbers; the body is as long as the call says
+-- our answers in the rules' numbers; the body is as long as the call says
 abbrev pub heardIn : Received → Heard Sign
 heardIn r = record { told = outcomeTold (r .outcome); next = r .sign; body = take (r .len) (r .body) }
 

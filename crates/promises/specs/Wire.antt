@@ -1,5 +1,5 @@
 -- The wire: what a packet and a reply are read as, exactly when, and what each writer leaves in any buffer.
--- 01: "what was written reads back as its fields, and accepted packets of equal fields are equal bytes".
+-- Rules W9 and W12 for the readers, W13 and W15 to W18 for the writers, W19 for both together.
 use Prim.Native.Nat.{ℕ, _≤_, _<_}
 use mathlib.Core.Bool.{Bool, true}
 use mathlib.Core.List.{List, [], _∷_}
@@ -11,7 +11,7 @@ use Rattle.basis.specs.Told.{no}
 use Rattle.packet.specs.Wire.{fifthOf, packetOf, queryOf, resetOf, totalOf, partOf, packetAt, transmissionOf, replyOf}
 use Rattle.packet.specs.Write.{rightFields, shortBy, packetRows, transmissionRows, answerOf, bufferOf, toldOf as writtenTold}
 use Rattle.packet.specs.declared.write.Written.the-variants.{Wrote as WroteBytes}
-use Rattle.reader.specs.Read.{rowsOf, Lowest, toldOf as readTold}
+use Rattle.reader.specs.Read.{Lowest, toldOf as readTold}
 use Rattle.reader.specs.declared.read.Reading.the-variants.{Query, Reset, Normal}
 use Rattle.reply.specs.Reply.{isLast, replyRows, toldOf as statusTold}
 use Rattle.reply.specs.declared.Status.the-variants.{Heard as HeardReply}
@@ -63,7 +63,7 @@ pub record HearsBack {R : Type 0} (u : Calls R) (mid last : ℕ) (busy sink : Bo
   pub count : u .answer mid last busy sink out .told ≡ writtenTold (WroteBytes 8)
   pub told : u .hear mid (take 8 (u .answer mid last busy sink out .buffer)) ≡ statusTold (HeardReply last busy sink)
   pub behind : drop 8 (u .answer mid last busy sink out .buffer) ≡ drop 8 out
-  pub apart : (m : ℕ) → u .read m (take 8 (u .answer mid last busy sink out .buffer)) ≡ no (firstOf (rowsOf m (replyOf mid last busy sink)))
+  pub apart : (m : ℕ) → u .read m (take 8 (u .answer mid last busy sink out .buffer)) .number ≡ 0 → ⊥
 
 -- both ends together: what was written reads back, and equal fields are equal bytes
 pub record WireHolds {R : Type 0} (u : Calls R) : Type 0 where

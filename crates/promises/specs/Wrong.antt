@@ -1,4 +1,4 @@
--- Wrong units, each refuted in proofs/Wrong: what the promises shut out.
+-- Wrong units, those of P3 and P4 among them, each refuted in proofs/Wrong: what the promises shut out.
 use Prim.Native.Nat.{ℕ, zero, suc}
 use mathlib.Core.Bool.{Bool, true, false}
 use mathlib.Core.List.{List, [], _∷_, _++_}
@@ -167,7 +167,7 @@ trusting = judging (λ b. verdictTold Finite)
 
 -- a forecast whose scans are made up
 abbrev pub madeUp : Foretold → Foretold
-madeUp (Ends t) = Ends (totalsOf (t .steps .0) (suc (t .scans .0)) (t .millis .0))
+madeUp (Ends t pace each) = Ends (totalsOf (t .steps .0) (suc (t .scans .0)) (t .millis .0)) pace each
 madeUp Never = Never
 madeUp (NoForecast n p) = NoForecast n p
 
@@ -176,9 +176,9 @@ inventing = foretelling (λ b pace each. madeUp (forecastOf b pace each))
 
 -- a forecast of nothing for what is refused
 abbrev pub nothingFor : Foretold → Foretold
-nothingFor (Ends t) = Ends t
+nothingFor (Ends t pace each) = Ends t pace each
 nothingFor Never = Never
-nothingFor (NoForecast n p) = Ends (totalsOf 0 0 0)
+nothingFor (NoForecast n p) = Ends (totalsOf 0 0 0) 4 1
 
 abbrev pub lenient : Calls Sign
 lenient = foretelling (λ b pace each. nothingFor (forecastOf b pace each))
@@ -194,7 +194,7 @@ readied h =
 
 abbrev pub atOnce : Calls Sign
 atOnce =
-    works (λ b pace each. forecastTold (Ends (totalsOf 0 0 0))) (ours .holds) (ours .power) (λ s mid b. readied (ours .receive s mid b)) (ours .step)
+    works (λ b pace each. forecastTold (Ends (totalsOf 0 0 0) pace each)) (ours .holds) (ours .power) (λ s mid b. readied (ours .receive s mid b)) (ours .step)
     (ours .clear)
     (ours .reply)
     (ours .copy)
@@ -283,6 +283,15 @@ sulks (NoProgram n p) t = t
 
 abbrev pub sulking : Calls Sign
 sulking = stepping (λ s. record { told = sulks (judgeOf (runningBody s)) (ours .step s .told); next = ours .step s .next })
+
+-- a Ready sign that forgets the completed number when it is stepped
+abbrev pub drowsy : Calls Sign
+drowsy =
+    stepping
+    (λ s.
+    when (eqb (s .run .len) 0)
+    (record { told = ours .step s .told; next = record { last = 0x41; slots = s .slots; room = s .room; run = s .run } })
+    (ours .step s))
 
 -- a sign that always says Ready
 abbrev pub rosy : Calls Sign

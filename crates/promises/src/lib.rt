@@ -1,12 +1,14 @@
-// The promises, each as a statement over any message unit that a person who knows 01 can read, and their proofs; no code.
-//   specs/Unit      all public calls of a unit, in 01's numbers, and ours
+// The promises, each as a statement over any message unit that a person who knows the rules can read, and their proofs;
+// no code.
+//   specs/Unit      all public calls of a unit, in the rules' numbers, and ours   P13
 //   specs/Dispatch  from dispatch to Ready, in one statement            demands 2 and 3 and the driver's wish together
-//   specs/Safe      no trip                                             demand 1
-//   specs/Wire      what is read, and what is written                   demand 2
-//   specs/Delivery  a body written, delivered and released              demand 2
-//   specs/Record    the rules of joining one by one, reset, reply, copy and the repeater
-//   specs/Line      judging, the forecast and the line                  demand 3
+//   specs/Safe      no trip                                             demand 1; N0, N16, R1
+//   specs/Wire      what is read, and what is written                   demand 2; W9, W12, W13, W15 to W19
+//   specs/Delivery  a body written, delivered and released              demand 2; J9 to J12
+//   specs/Record    joining, reset, step, reply, copy and the repeater  J2 to J16, S1, S12, S28 to S30
+//   specs/Line      judging, the forecast and the line                  demand 3; L28, L29, S22 to S26, S32
 //   specs/Keeps     all of them together, and what it is not to be told from ours
-//   specs/Wrong     wrong units
-//   specs/Bench     the examples that 01 marks, as one table
-//   proofs/..       ours keeps each, no other unit keeps them all (Pins), and the wrong units do not (Wrong)
+//   specs/Wrong     wrong units                                         P3, P4
+//   specs/Bench     the examples that the rules mark, as one table      P5
+//   proofs/..       the code is ours by its contracts (Contracts), ours keeps each promise, no other unit keeps all of
+//                   them (Pins), the wrong units do not (Wrong), and each public call has one outcome (Outcome, Lent)

@@ -1,4 +1,4 @@
--- Reading a packet: the table of numbers 1 to 11 in 01, and the fields of what none of them refuses.
+-- Reading a packet (W9): the lowest of N1 to N11 that applies, and the fields of what none of them refuses (W3 to W6).
 use Prim.Native.Nat.{ℕ, zero, suc, _+_, _-_, _/_, _%_, _≤_}
 use mathlib.Core.List.{List, [], _∷_}
 use mathlib.Core.Bool.{Bool, true, not}
@@ -64,7 +64,8 @@ pub record Lowest (mid : ℕ) (b : List ℕ) (k : ℕ) : Type 0 where
   pub holds : applies k (rowsOf mid b) ≡ true
   pub lowest : (j : ℕ) → applies j (rowsOf mid b) ≡ true → k ≤ j
 
--- the answer in 01's numbers: 1 for a query, 2 for a reset, 3 for a normal packet; then its ID, N, position and count of data bytes
+-- the answer in the rules' numbers: 1 for a query, 2 for a reset, 3 for a normal packet; then its ID, N, position and
+-- count of data bytes
 abbrev pub toldOf : Reading → Told
 toldOf Query = yes (1 ∷ 0 ∷ 0 ∷ 0 ∷ 0 ∷ [])
 toldOf Reset = yes (2 ∷ 0 ∷ 0 ∷ 0 ∷ 0 ∷ [])

@@ -1,6 +1,5 @@
-// Packets read (01, "The packet", and numbers 1 to 11), over the layout that the crate `packet` writes. No call has a `requires`; it
-// answers for any bytes.
-//   read    a packet's bytes to its fields, or the lowest number        "The lowest of 1 to 11 that applies is given"
+// Packets read, over the layout that the crate `packet` writes. No call has a `requires`; it answers for any bytes.
+//   read    a packet's bytes to its fields, or the lowest number        W9, N1 to N11
 // proofs/ReadBack, Unique and Refusals join reading and writing: they are inverse on what they accept.
 mod read;
 

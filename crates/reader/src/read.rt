@@ -1,4 +1,4 @@
-// Reads a packet's bytes ("The packet", numbers 1 to 11).
+// Reads a packet's bytes: rule W9, and N1 to N11.
 use packet::sum_of;
 ghost use mathlib.Core.Path.{_≡_};
 ghost use Prim.Native.Nat.{_<_, _≤_};

@@ -1,4 +1,5 @@
--- The forecast adds up: the sums over the steps of a started program until it is Ready are its price by two readings.
+-- The forecast adds up: the sums over the steps of a started program until it is Ready are its price by two readings, and it is Ready with
+-- the settings behind its block.
 use Prim.Native.Nat.{ℕ, zero, suc, _+_, _≤_, _<_}
 use mathlib.Core.List.{List, [], _∷_}
 use mathlib.Core.Bool.{true, false, not}
@@ -16,12 +17,12 @@ use Rattle.judge.specs.Verdict.{judgeOf}
 use Rattle.judge.specs.declared.Verdict.{Verdict}
 use Rattle.judge.specs.declared.Verdict.the-variants.{Finite}
 use Rattle.course.specs.Price.{sumBy, ones, scans, millis, priceOf}
-use Rattle.course.specs.Tree.{treeIn}
+use Rattle.course.specs.Tree.{exitOf, treeIn}
 use Rattle.course.proofs.Theorem.{finite-ends}
 use Rattle.machine.specs.Line.{lineOf, performed}
 use Rattle.room.specs.Room.{roomOf}
-use Rattle.machine.specs.Step.{stepOf, afterRun, saidRun, startedOf}
-use Rattle.reckon.specs.Forecast.{measured, tally, mostSteps, talliesOf, settingsAt, outOfRange, byVerdict, forecastOf}
+use Rattle.machine.specs.Step.{readyOf, stepOf, afterRun, saidRun, startedOf}
+use Rattle.reckon.specs.Forecast.{measured, tally, mostSteps, talliesOf, leftBy, settledOf, settingsAt, outOfRange, byVerdict, forecastOf}
 use Rattle.reckon.specs.Forecast.{pricesOf}
 use Rattle.machine.specs.declared.Answer.{Answer}
 use Rattle.machine.specs.declared.Answer.the-variants.{Did}
@@ -64,16 +65,40 @@ tallies-price b e σ set =
     totals-are _ _ _ _ _ _ (ap capped (sym (tally-price b e σ set ones))) (ap capped (sym (tally-price b e σ set scans)))
     (ap capped (sym (tally-price b e σ set millis)))
 
+-- a run that is Ready after so many steps, and not sooner
+left-is : (fuel n : ℕ) (room : List ℕ) (r : Run) → n ≤ fuel → ((k : ℕ) → k < n → BusyRun (afterRun k room r)) → afterRun n room r .len ≡ 0
+    → leftBy fuel room r ≡ afterRun n room r .settings
+unfolding leftBy
+left-is zero zero room r most busy done = refl
+left-is zero (suc n) room r most busy done = absurd (omega arith)
+left-is (suc fuel) zero room r most busy done = when-true (eqb (r .len) 0) _ _ (eq-eqb (r .len) 0 done)
+left-is (suc fuel) (suc n) room r most busy done =
+    when-false (eqb (r .len) 0) _ _ (ne-eqb (r .len) 0 (busy 0 (omega arith)))
+    ∙ left-is fuel n room (stepOf room r .run) (omega arith) (λ k h. busy (suc k) (omega arith)) done
+
+-- a program that ends is Ready with the settings behind its block
+pub exit-settled : (b : List ℕ) → judgeOf b ≡ Finite → (σ : Settings) → settingsSound σ ≡ true
+    → exitOf (treeIn b .block) σ ≡ settledOf (roomOf b) (startedOf (length b) σ)
+unfolding settledOf readyOf
+exit-settled b e σ set =
+    let l = line-ends b e σ set in
+    sym
+    (left-is mostSteps (length (lineOf b σ)) (roomOf b) (startedOf (length b) σ) (l .most) (l .busy-before) (ap (λ (r : Run). r .len) (l .ready-then))
+    ∙ ap (λ (r : Run). r .settings) (l .ready-then))
+
 module _ (b : List ℕ) (pace each : ℕ) (h1 : 1 ≤ pace) (h2 : pace ≤ 20) (h3 : 1 ≤ each) (h4 : each ≤ 6) where
   ranged : outOfRange pace each ≡ false
   ranged = ap not (and-true _ _ (within-true 1 pace 20 h1 h2) (within-true 1 each 6 h3 h4))
 
   -- a pace and scans in range leave the answer to the body
-  pub in-range : (v : Verdict) → judgeOf b ≡ v → forecastOf b pace each ≡ byVerdict v (talliesOf (roomOf b) (startedOf (length b) (settingsAt pace each)))
+  pub in-range : (v : Verdict) → judgeOf b ≡ v
+      → forecastOf b pace each
+      ≡ byVerdict v (talliesOf (roomOf b) (startedOf (length b) (settingsAt pace each))) (settledOf (roomOf b) (startedOf (length b) (settingsAt pace each)))
   unfolding forecastOf
   in-range v e =
-      when-false (outOfRange pace each) (Refused 17 0) (byVerdict (judgeOf b) (talliesOf (roomOf b) (startedOf (length b) (settingsAt pace each)))) ranged
-      ∙ ap (λ (x : Verdict). byVerdict x (talliesOf (roomOf b) (startedOf (length b) (settingsAt pace each)))) e
+      let r = startedOf (length b) (settingsAt pace each) in
+      when-false (outOfRange pace each) (Refused 17 0) (byVerdict (judgeOf b) (talliesOf (roomOf b) r) (settledOf (roomOf b) r)) ranged
+      ∙ ap (λ (x : Verdict). byVerdict x (talliesOf (roomOf b) r) (settledOf (roomOf b) r)) e
 
   pub settings-sound : settingsSound (settingsAt pace each) ≡ true
   settings-sound = sounds pace each 0 16 0 h1 h2 h3 h4 (omega arith) (omega arith, omega arith) refl

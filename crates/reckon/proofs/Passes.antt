@@ -1,6 +1,6 @@
 -- Passes over the same commands, from settings that agree in pace and scans, come to the same totals: so a loop that leaves both as
--- they were is priced by its first pass.
-use Prim.Native.Nat.{ℕ, _+_}
+-- they were is priced by its first pass. And what a block leaves agrees again.
+use Prim.Native.Nat.{ℕ, zero, suc, _+_}
 use mathlib.Core.List.{List, [], _∷_}
 use mathlib.Core.Bool.{true}
 use mathlib.Core.Path.{_≡_, refl, ap, _∙_}
@@ -10,7 +10,8 @@ use Rattle.basis.proofs.Choices.{and-parts}
 use Rattle.perform.specs.Settings.{changed, changesOf}
 use Rattle.perform.specs.declared.settings.Settings.{Settings}
 use Rattle.loops.specs.Token.{Part, act, rep, close, forever, again, Tok, good, bad, sizeOf, get, tokensOf}
-use Rattle.course.specs.Steps.{saysOf}
+use Rattle.course.specs.Steps.{saysOf, setsOf}
+use Rattle.course.specs.Tree.{Block, stop, one, loop, times, exitOf}
 use Rattle.course.specs.Price.{scans, millis}
 use Rattle.course.proofs.Agrees.{Agree, scans-care, millis-care}
 use Rattle.reckon.specs.Reckon.{setsPart, addedOf, strideOf, passOf, alikeOf, laterOf}
@@ -28,6 +29,18 @@ sets-like (rep n z) σ τ h = h
 sets-like close σ τ h = h
 sets-like forever σ τ h = h
 sets-like again σ τ h = h
+
+times-like : (f : Settings → Settings) → ((σ τ : Settings) → Agree σ τ → Agree (f σ) (f τ)) → (n : ℕ) (σ τ : Settings) → Agree σ τ
+    → Agree (times n f σ) (times n f τ)
+times-like f e zero σ τ h = h
+times-like f e (suc n) σ τ h = times-like f e n (f σ) (f τ) (e σ τ h)
+
+-- what a block leaves of pace and scans goes by these two alone
+pub exit-like : (t : Block) (σ τ : Settings) → Agree σ τ → Agree (exitOf t σ) (exitOf t τ)
+exit-like stop σ τ h = h
+exit-like (one a t) σ τ h = exit-like t (setsOf a σ) (setsOf a τ) (sets-like (act a) σ τ h)
+exit-like (loop n z body t) σ τ h =
+    exit-like t (times n (exitOf body) σ) (times n (exitOf body) τ) (times-like (exitOf body) (λ x y k. exit-like body x y k) n σ τ h)
 
 cost-like : (c : Part) (σ τ : Settings) → Agree σ τ → costOf (saysOf c σ) ≡ costOf (saysOf c τ)
 cost-like c σ τ h =

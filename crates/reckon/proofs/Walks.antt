@@ -25,8 +25,7 @@ use Rattle.judge.proofs.Turns.{from, turnAt, next-place, on-next, on-end}
 use Rattle.loops.proofs.Values.{get-loop}
 use Rattle.totals.specs.Totals.{noneOf, plusOf, timesOf}
 use Rattle.totals.specs.declared.Totals.{Totals}
-use Rattle.course.specs.Price.{leavesOf}
-use Rattle.course.specs.Tree.{treeIn}
+use Rattle.course.specs.Tree.{exitOf, treeIn}
 use Rattle.reckon.specs.Forecast.{pricesOf, byVerdict, foretoldOf}
 use Rattle.reckon.specs.Reckon.{addedOf, passOf, laterOf, entryOf, closedOf, takenOf, summedOf, Counts, Passing}
 use Rattle.reckon.specs.declared.reckon.Reckoned.{Reckoned}
@@ -193,31 +192,31 @@ stands-next b whole last p k f g s x h e ex i =
       ),
     )
 
--- no totals are told but those of a program that ends
-pub told-same : (v : Verdict) (t u : Totals) → (v ≡ Finite → t ≡ u) → byVerdict v t ≡ byVerdict v u
-told-same Finite t u h = ap Ends (h refl)
-told-same Endless t u h = refl
-told-same (NoProgram n q) t u h = refl
+-- no totals and settings are told but those of a program that ends
+pub told-same : (v : Verdict) (t u : Totals) (σ τ : Settings) → (v ≡ Finite → (t ≡ u) × (σ ≡ τ)) → byVerdict v t σ ≡ byVerdict v u τ
+told-same Finite t u σ τ h = ap (λ (x : Totals). byVerdict Finite x σ) (h refl .0) ∙ ap (byVerdict Finite u) (h refl .1)
+told-same Endless t u σ τ h = refl
+told-same (NoProgram n q) t u σ τ h = refl
 
 kept-whole : (b : List ℕ) (whole : Totals) (last : Settings) (f : Flow) (s : Sums) → length b ≤ s .at .place → endOf (endedOf f) (opensOf f) ≡ Finite
     → Kept b whole last f s
-    → s .at .totals ≡ whole
-kept-whole b whole last Free s h e i = left-none b whole last (s .at) h i .0
+    → (s .at .totals ≡ whole) × (s .at .settings ≡ last)
+kept-whole b whole last Free s h e i = left-none b whole last (s .at) h i
 kept-whole b whole last (Within l) s h e i = let z : _≡_ {A = ℕ} 0 1 = cc in absurd (omega arith)
 kept-whole b whole last Ended s h e i = let z : _≡_ {A = ℕ} 0 1 = cc in absurd (omega arith)
 
--- at the end the whole is told
+-- at the end the whole is told, and the last settings
 pub stands-end : (b : List ℕ) (whole : Totals) (last : Settings) (p : ℕ) (f : Flow) (s : Sums) → length b ≤ p → judgeOf b ≡ commandsOf b
     → Stands b whole last p f s
-    → foretoldOf f (s .at .totals) ≡ byVerdict (judgeOf b) whole
+    → foretoldOf f (s .at .totals) (s .at .settings) ≡ byVerdict (judgeOf b) whole last
 stands-end b whole last p f s h j i =
     let end : endOf (endedOf f) (opensOf f) ≡ judgeOf b = sym (on-end b p f h) ∙ i .1 .0 ∙ sym j in
     let past : length b ≤ s .at .place = subst (λ (y : ℕ). length b ≤ y) (i .0) h in
-    ap (λ (v : Verdict). byVerdict v (s .at .totals)) end
-    ∙ told-same (judgeOf b) (s .at .totals) whole (λ v. kept-whole b whole last f s past (end ∙ v) (i .1 .1 .1 v))
+    ap (λ (v : Verdict). byVerdict v (s .at .totals) (s .at .settings)) end
+    ∙ told-same (judgeOf b) (s .at .totals) whole (s .at .settings) last (λ v. kept-whole b whole last f s past (end ∙ v) (i .1 .1 .1 v))
 
 pub stands-first : (b : List ℕ) (σ : Settings) (z w : Totals) → z ≡ noneOf
-    → Stands b (pricesOf (treeIn b .block) σ) (leavesOf (treeIn b .block) σ) 0 Free
+    → Stands b (pricesOf (treeIn b .block) σ) (exitOf (treeIn b .block) σ) 0 Free
     (record { at = record { place = 0; settings = σ; totals = z }; entry = σ; before = w })
 stands-first b σ z w e = (
   refl,
@@ -225,7 +224,7 @@ stands-first b σ z w e = (
     refl,
     (
       λ l u. let y : _≡_ {A = ℕ} 0 1 = cc in absurd (omega arith),
-      λ v. subst (λ (t : Totals). Left b (pricesOf (treeIn b .block) σ) (leavesOf (treeIn b .block) σ) (record { place = 0; settings = σ; totals = t })) (sym e) (left-all b σ v),
+      λ v. subst (λ (t : Totals). Left b (pricesOf (treeIn b .block) σ) (exitOf (treeIn b .block) σ) (record { place = 0; settings = σ; totals = t })) (sym e) (left-all b σ v),
     ),
   ),
 )

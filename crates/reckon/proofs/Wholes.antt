@@ -11,9 +11,10 @@ use Rattle.judge.specs.Verdict.{judgeOf}
 use Rattle.judge.specs.declared.Verdict.the-variants.{Finite}
 use Rattle.loops.proofs.Tokens.{tokens-first}
 use Rattle.course.specs.Steps.{saysOf, setsOf}
-use Rattle.course.specs.Tree.{Block, stop, one, loop, flat, treeIn}
+use Rattle.course.specs.Tree.{Block, stop, one, loop, times, exitOf, flat, treeIn}
 use Rattle.course.specs.Price.{ones, scans, millis, leavesOf, priceOf}
 use Rattle.course.proofs.Accepts.{Depth}
+use Rattle.course.proofs.Changes.{Counted, times-exit}
 use Rattle.loops.proofs.Values.{get-loop}
 use Rattle.course.proofs.Programs.{program}
 use Rattle.course.proofs.Runs.{At, past, at-past}
@@ -78,20 +79,26 @@ pass-block b t k s d w h =
     ap (λ (x : Reckoned). addedOf (get b (x .place)) x) (stride-block b t k s d w h)
     ∙ ap (λ (x : Tok). addedOf x (behindBlock t s)) (at-past (get b) (length b) t (close ∷ k) (s .place) h .1 .0)
 
--- what is left to reckon: the rest of the program stands at the place, and with what is summed makes up the whole
+-- in a block without loops each loop has a number of 1 at least
+none-counted : (t : Block) → Depth 0 t → Counted t
+none-counted stop d = tt
+none-counted (one a t) d = none-counted t d
+none-counted (loop n z body t) d = absurd d
+
+-- what is left to reckon: the rest of the program stands at the place, with what is summed makes up the whole, and leaves the last settings
 pub record Left (b : List ℕ) (whole : Totals) (last : Settings) (s : Reckoned) : Type 0 where
   pub rest : Block
   pub stands : At (get b) (length b) (s .place) (flat rest [])
   pub deep : Depth 1 rest
   pub within : Within (s .totals)
   pub sums : plusOf (s .totals) (pricesOf rest (s .settings)) ≡ whole
-  pub leaves : leavesOf rest (s .settings) ≡ last
+  pub leaves : exitOf rest (s .settings) ≡ last
 
 module _ (b : List ℕ) (whole : Totals) (last : Settings) where
   -- a turn takes a command or a loop off what is left
   turn-one : (s : Reckoned) (t : Block) (a : _) → At (get b) (length b) (s .place) (flat (one a t) []) → Depth 1 (one a t)
       → plusOf (s .totals) (pricesOf (one a t) (s .settings)) ≡ whole
-      → leavesOf (one a t) (s .settings) ≡ last
+      → exitOf (one a t) (s .settings) ≡ last
       → Left b whole last (addedOf (good (act a)) s)
   turn-one s t a h d e l =
       let σ = setsOf a (s .settings) in
@@ -108,7 +115,7 @@ module _ (b : List ℕ) (whole : Totals) (last : Settings) where
 
   turn-loop : (s : Reckoned) (m z : ℕ) (body t : Block) → At (get b) (length b) (s .place) (flat (loop (suc m) z body t) []) → Depth 1 (loop (suc m) z body t)
       → plusOf (s .totals) (pricesOf (loop (suc m) z body t) (s .settings)) ≡ whole
-      → leavesOf (loop (suc m) z body t) (s .settings) ≡ last
+      → exitOf (loop (suc m) z body t) (s .settings) ≡ last
       → Left b whole last (loopedOf b (suc m) (addedOf (good (rep (suc m) z)) s))
   unfolding answerOf
   turn-loop s m z body t h d e l =
@@ -122,6 +129,7 @@ module _ (b : List ℕ) (whole : Totals) (last : Settings) where
       let one-pass : passOf b s0 ≡ first = pass-block b body (flat t []) s0 (d .0) (omega arith) (h .1 .1) in
       let two-pass : passOf b s2 ≡ later = pass-block b body (flat t []) s2 (d .0) (omega arith) (h .1 .1) in
       let less : suc m - 1 ≡ m = omega arith in
+      let passed : times (suc m) (exitOf body) σ ≡ τ = times-exit body (suc m) (omega arith) (none-counted body (d .0)) σ in
       let once = plusOf (s1 .totals) (first .totals) in
       let is : loopedOf b (suc m) s1 ≡ record { place = first .place; settings = τ; totals = plusOf once (timesOf m (later .totals)) } =
       ap (λ (x : Reckoned). record { place = x .place; settings = x .settings; totals = plusOf (plusOf (s1 .totals) (x .totals)) (timesOf (suc m - 1) (passOf b (record { place = s1 .place; settings = x .settings; totals = noneOf }) .totals)) }) one-pass
@@ -142,7 +150,7 @@ module _ (b : List ℕ) (whole : Totals) (last : Settings) where
             (priceOf millis body τ)
             (priceOf millis t τ)
             ∙ e;
-        leaves = l;
+        leaves = sym (ap (exitOf t) passed) ∙ l;
       }
       )
 
@@ -152,7 +160,7 @@ module _ (b : List ℕ) (whole : Totals) (last : Settings) where
   turn-keeps s within h = go (h .rest) (h .stands) (h .deep) (h .sums) (h .leaves)
     where
       go : (t : Block) → At (get b) (length b) (s .place) (flat t []) → Depth 1 t → plusOf (s .totals) (pricesOf t (s .settings)) ≡ whole
-          → leavesOf t (s .settings) ≡ last
+          → exitOf t (s .settings) ≡ last
           → Left b whole last (turnOf b (get b (s .place)) s)
       go stop w d e l = absurd (omega arith)
       go (one a t) w d e l = subst (λ (x : Tok). Left b whole last (turnOf b x s)) (sym (w .1 .0)) (turn-one s t a w d e l)
@@ -164,7 +172,7 @@ module _ (b : List ℕ) (whole : Totals) (last : Settings) where
   left-none s past h = go (h .rest) (h .stands) (h .sums) (h .leaves)
     where
       go : (t : Block) → At (get b) (length b) (s .place) (flat t []) → plusOf (s .totals) (pricesOf t (s .settings)) ≡ whole
-          → leavesOf t (s .settings) ≡ last
+          → exitOf t (s .settings) ≡ last
           → (s .totals ≡ whole) × (s .settings ≡ last)
       go stop w e l = (sym (plus-none (s .totals) (h .within)) ∙ e, l)
       go (one a t) w e l = absurd (omega (arith, w .0))
@@ -172,7 +180,7 @@ module _ (b : List ℕ) (whole : Totals) (last : Settings) where
 
 -- all of a program that comes to an end is left at its start
 pub left-all : (b : List ℕ) (σ : Settings) → judgeOf b ≡ Finite
-    → Left b (pricesOf (treeIn b .block) σ) (leavesOf (treeIn b .block) σ) (record { place = 0; settings = σ; totals = noneOf })
+    → Left b (pricesOf (treeIn b .block) σ) (exitOf (treeIn b .block) σ) (record { place = 0; settings = σ; totals = noneOf })
 left-all b σ e =
     let p = program b Finite e tt in
     let t = treeIn b .block in

@@ -1,6 +1,5 @@
--- The forecast: the sums over the steps of a run, from its start until it is Ready.
--- 01: "The forecast gives totals of steps, scans and milliseconds (32 bits suffice), or says endless"; 17: "forecast with pace or
--- scan setting out of range, before 21 to 28".
+-- The forecast: the sums over the steps of a run, from its start until it is Ready, and the settings that it then has.
+-- Rules S22 to S26 for the sums, S32 for the settings, N17 before what judging refuses.
 use Prim.Native.Nat.{ℕ, zero, suc, _+_}
 use mathlib.Core.List.{List, [], _∷_}
 use mathlib.Core.Bool.{Bool, not}
@@ -17,7 +16,7 @@ use Rattle.loops.specs.declared.Flow.{Flow}
 use Rattle.judge.specs.declared.Verdict.{Verdict}
 use Rattle.judge.specs.declared.Verdict.the-variants.{Finite, Endless, Refused}
 use Rattle.course.specs.Price.{ones, scans, millis, priceOf}
-use Rattle.course.specs.Tree.{Block, treeIn}
+use Rattle.course.specs.Tree.{Block, exitOf, treeIn}
 use Rattle.room.specs.Room.{roomOf}
 use Rattle.machine.specs.Step.{stepOf, startedOf}
 use Rattle.totals.specs.Totals.{totalsOf}
@@ -48,6 +47,15 @@ unfoldable pub talliesOf : List ℕ → Run → Totals
 talliesOf room r =
     totalsOf (capped (tally ones mostSteps room r)) (capped (tally scans mostSteps room r)) (capped (tally millis mostSteps room r))
 
+-- the settings of a run after its steps until it is Ready, within so many steps
+unfoldable pub leftBy : ℕ → List ℕ → Run → Settings
+leftBy zero room r = r .settings
+leftBy (suc k) room r = when (eqb (r .len) 0) (r .settings) (leftBy k room (stepOf room r .run))
+
+-- the settings that a run leaves when it is Ready
+unfoldable pub settledOf : List ℕ → Run → Settings
+settledOf room r = leftBy mostSteps room r
+
 -- the caller's pace and scans; what else a sign is set to costs nothing
 abbrev pub settingsAt : ℕ → ℕ → Settings
 settingsAt pace each = record { pace = pace; scans = each; sink = 0; dim = 16; bright = 0 }
@@ -55,15 +63,17 @@ settingsAt pace each = record { pace = pace; scans = each; sink = 0; dim = 16; b
 abbrev pub outOfRange : ℕ → ℕ → Bool
 outOfRange pace each = not (within 1 pace 20 and within 1 each 6)
 
-abbrev pub byVerdict : Verdict → Totals → Foretold
-byVerdict Finite t = Ends t
-byVerdict Endless t = Never
-byVerdict (Refused n p) t = RefusedForecast n p
+-- of a program that ends its totals are told, and the pace and the scans of the settings that it leaves
+abbrev pub byVerdict : Verdict → Totals → Settings → Foretold
+byVerdict Finite t σ = Ends t (σ .pace) (σ .scans)
+byVerdict Endless t σ = Never
+byVerdict (Refused n p) t σ = RefusedForecast n p
 
 unfoldable pub forecastOf : List ℕ → ℕ → ℕ → Foretold
 forecastOf b pace each =
     when (outOfRange pace each) (RefusedForecast 17 0)
-    (byVerdict (judgeOf b) (talliesOf (roomOf b) (startedOf (length b) (settingsAt pace each))))
+    (byVerdict (judgeOf b) (talliesOf (roomOf b) (startedOf (length b) (settingsAt pace each)))
+    (settledOf (roomOf b) (startedOf (length b) (settingsAt pace each))))
 
 -- what a block costs, in the three units
 abbrev pub pricesOf : Block → Settings → Totals
@@ -71,14 +81,15 @@ pricesOf t σ = totalsOf (capped (priceOf ones t σ)) (capped (priceOf scans t �
 
 -- what is told of a body, by two readings of its loops
 abbrev pub walkedOf : List ℕ → Settings → Foretold
-walkedOf b σ = byVerdict (judgeOf b) (pricesOf (treeIn b .block) σ)
+walkedOf b σ = byVerdict (judgeOf b) (pricesOf (treeIn b .block) σ) (exitOf (treeIn b .block) σ)
 
 -- what is foretold where no command is left
-abbrev pub foretoldOf : Flow → Totals → Foretold
-foretoldOf f t = byVerdict (endOf (endedOf f) (opensOf f)) t
+abbrev pub foretoldOf : Flow → Totals → Settings → Foretold
+foretoldOf f t σ = byVerdict (endOf (endedOf f) (opensOf f)) t σ
 
--- the forecast in 01's numbers: 1 for an endless program, 0 for one that ends, and then its steps, scans and milliseconds
+-- the forecast in the rules' numbers: 1 for an endless program, 0 for one that ends, and then its steps, scans and
+-- milliseconds, and the pace and the scans that it leaves
 abbrev pub toldOf : Foretold → Told
-toldOf (Ends t) = yes (0 ∷ t .steps .0 ∷ t .scans .0 ∷ t .millis .0 ∷ [])
-toldOf Never = yes (1 ∷ 0 ∷ 0 ∷ 0 ∷ [])
+toldOf (Ends t pace each) = yes (0 ∷ t .steps .0 ∷ t .scans .0 ∷ t .millis .0 ∷ pace ∷ each ∷ [])
+toldOf Never = yes (1 ∷ 0 ∷ 0 ∷ 0 ∷ 0 ∷ 0 ∷ [])
 toldOf (RefusedForecast n p) = noAt n p

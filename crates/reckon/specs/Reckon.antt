@@ -1,5 +1,5 @@
--- Reckoning a program command by command, as it is judged: a loop by its first pass, and by a second for all later ones.
--- Contracts of private functions cite it, and no public one does.
+-- Reckoning a program command by command, as it is judged: a loop by its first pass, and by a second for all later ones
+-- (S23, S27). Contracts of private functions cite it, and no public one does.
 use Prim.Native.Nat.{ℕ, _+_, _-_, _≤_}
 use mathlib.Core.List.{List, [], _∷_}
 use mathlib.Core.Bool.{Bool, true, false}

@@ -1,5 +1,4 @@
-// The forecast. Answers to 01: "The forecast gives totals of steps, scans and milliseconds (32 bits suffice), or says endless. It
-// should read a loop's commands at most twice", and number 17.
+// The forecast: rules S22 to S26 and S32, with each loop read twice at most (S27), and N17.
 use crate::Totals;
 use crate::walk::walk;
 use judge::Opening;
@@ -122,14 +121,15 @@ pub(crate) fn later(body: &[u8], start: Reckoned, first: Reckoned) -> Totals
     again.totals
 }
 
-// What is told of a program beforehand: the totals until it is Ready, that it never is, or the refusal and its place.
+// What is told of a program beforehand: the totals until it is Ready, and the pace and the scans that it leaves; that it never is; or
+// the refusal and its place.
 pub enum Foretold {
-    Ends(Totals),
+    Ends(Totals, u8, u8),
     Endless,
     Refused(u8, usize),
 }
 
-// How long a body will run when it is started at this pace and this many scans a shift.
+// How long a body will run when it is started at this pace and this many scans a shift, and what it leaves of both.
 pub fn forecast(body: &[u8], pace: u8, scans: u8) -> Foretold
     ensures { λ r. ⌜ r ≡ forecastOf (now (body .entry)) pace scans ⌝ }
 {

@@ -1,5 +1,5 @@
-// A body judged and reckoned in one walk. Answers to 01: "It should read a loop's commands at most twice": a loop is reckoned as it is
-// judged, and read once more where it changes pace or scans.
+// A body judged and reckoned in one walk (S22 to S24): a loop is reckoned as it is judged, and read once more where it
+// changes pace or scans (S27).
 use crate::Foretold;
 use crate::Totals;
 use crate::reckon::Reckoned;
@@ -155,12 +155,13 @@ fn summed(body: &[u8], read: Reading, flow: Flow, sums: Sums) -> Sums
 
 // What is told where no command is left.
 fn told(flow: Flow, sums: Sums) -> Foretold
-    ensures { λ r. ⌜ r ≡ foretoldOf flow (sums .at .totals) ⌝ }
+    ensures { λ r. ⌜ r ≡ foretoldOf flow (sums .at .totals) (sums .at .settings) ⌝ }
 {
     let at = sums.at;
     let totals = at.totals;
+    let left = at.settings;
     match flow {
-        Flow::Free => Foretold::Ends(totals),
+        Flow::Free => Foretold::Ends(totals, left.pace, left.scans),
         Flow::Ended => Foretold::Endless,
         Flow::Within(open) => Foretold::Refused(26, open.caret),
     }

@@ -1,6 +1,4 @@
--- The driver's repeater.
--- 01: "It hands back that very stretch of the body, or the whole standing line where the place is 0 or the stretch doesn't lie within
--- the body." The sum of place and length is the true one.
+-- The driver's repeater: rules S29 and S30. The sum of place and length is the true one.
 use Prim.Native.Nat.{ℕ, _+_}
 use mathlib.Core.List.{List}
 use mathlib.Core.Bool.{Bool, not}

@@ -1,5 +1,4 @@
-// The driver's repeater. Answers to 01: "It hands back that very stretch of the body, or the whole standing line where the place is 0
-// or the stretch doesn't lie within the body."
+// The driver's repeater: rules S29 and S30, in the form of P10.
 ghost use mathlib.Core.Path.{_≡_};
 ghost use Prim.Native.Nat.{_+_};
 ghost use Rattle.basis.specs.Choice.{when};

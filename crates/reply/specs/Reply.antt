@@ -1,4 +1,4 @@
--- The sign's reply to a query: what it may carry, how it is read (number 35) and what refuses to write it.
+-- The sign's reply to a query: what it may carry (W10), how it is read (W12, N35), and what refuses to write it (W18).
 use Prim.Native.Nat.{ℕ, _%_}
 use mathlib.Core.List.{List, [], _∷_}
 use mathlib.Core.Bool.{Bool, not}
@@ -42,7 +42,7 @@ heardOf mid b = when (isReply mid b) (statusOf (getD b 3 0) (getD b 4 0) (getD b
 abbrev pub replyRows : ℕ → ℕ → Bool → Bool → List ℕ → List Row
 replyRows mid last busy sink out = 32 if not (isLast last) ∷ shortBy (replyOf mid last busy sink) out ∷ []
 
--- the answer in 01's numbers: last ID, whether Busy, whether AUX reads sink
+-- the answer in the rules' numbers: last ID, whether Busy, whether AUX reads sink (W11)
 abbrev pub toldOf : Status → Told
 toldOf (Heard last busy sink) = yes (last ∷ flagOf busy ∷ flagOf sink ∷ [])
 toldOf (Refused n) = no n

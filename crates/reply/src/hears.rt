@@ -1,5 +1,4 @@
-// Hears a reply. Answers to 01, number 35: "reply reader, its only number: not the 8 bytes above for the given MID, last ID 0 to 3Fh or
-// 41h".
+// Hears a reply: rule W12, and N35.
 use crate::Status;
 use crate::letters::is_told;
 use crate::letters::turned_mid;

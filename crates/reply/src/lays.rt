@@ -1,4 +1,4 @@
-// Lays a reply. Answers to 01: "The sign answers a query with 8 bytes: MID with its lowest bit turned, 7Fh, 8, last ID, ..", and to 34.
+// Lays a reply: rules W10 and W13, with N32 and N34.
 use crate::letters::aux_letter;
 use crate::letters::is_last;
 use crate::letters::state_letter;

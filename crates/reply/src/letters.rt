@@ -1,5 +1,4 @@
-// What stands in a reply: which last IDs, the MID and the two letters. Answers to 01: "MID with its lowest bit turned, 7Fh, 8, last ID,
-// `R` or `B`, `S` or `F` as the caller says the AUX pin reads".
+// What stands in a reply: which last IDs, the MID and the two letters (W10, W11).
 ghost use mathlib.Core.Path.{_≡_};
 ghost use lib.Dec.{eqb};
 ghost use Rattle.basis.specs.Choice.{_and_, _or_};

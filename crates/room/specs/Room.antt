@@ -1,5 +1,4 @@
--- Room that is not used, and a room that holds a body.
--- 01: "unused room holds zeros".
+-- Room that is not used, and a room that holds a body: rule R5.
 use Prim.Native.Nat.{ℕ}
 use mathlib.Core.Bool.{Bool, true}
 use mathlib.Core.List.{List, [], _∷_}

@@ -1,4 +1,4 @@
-// Whether unused room holds zeros, of a body and of the packets collected. Answers to 01's sound record: "unused room holds zeros".
+// Whether unused room holds zeros, of a body and of the packets collected: rule R5.
 ghost use mathlib.Core.Path.{_≡_};
 ghost use lib.Dec.{eqb};
 ghost use lib.ListN.{drop};

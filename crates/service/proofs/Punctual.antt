@@ -24,7 +24,6 @@ use Rattle.machine.specs.declared.Stepped.{Stepped as RunStepped}
 use Rattle.machine.proofs.Follows.{started-busy}
 use Rattle.machine.proofs.Keeps.{step-ready, step-keeps}
 use Rattle.machine.proofs.Sounds.{ready-anywhere}
-use Rattle.reckon.proofs.Demand.{forecast-holds}
 use Rattle.machine.proofs.Lines.{LineEnds, line-ends}
 use Rattle.service.specs.Driver.{Event, afterSteps, saidSteps, stepsIn, Undisturbed}
 use Rattle.service.specs.Punctual.{OnTime}
@@ -151,6 +150,18 @@ module _ (s : Sign) (b : List ℕ) (σ : Settings) (g : Good s) (w : s .room ≡
   pub busy-steps : settingsSound σ ≡ true → judgeOf b ≡ Finite → (k : ℕ) → k < length (lineOf b σ) → afterSteps k s .run .len ≡ 0 → ⊥
   busy-steps set fin k before z = line-ends b fin σ set .busy-before k before (sym (ap (λ (r : Run). r .len) (started-run k)) ∙ z)
 
+-- a program that ends has a step at least
+pub line-some : (b : List ℕ) (σ : Settings) → settingsSound σ ≡ true → judgeOf b ≡ Finite → 0 < length (lineOf b σ)
+unfolding readyOf
+line-some b σ set fin = go (length (lineOf b σ)) refl
+  where
+    go : (k : ℕ) → length (lineOf b σ) ≡ k → 0 < length (lineOf b σ)
+    go zero q =
+        absurd
+        (started-busy b false fin σ set
+        (ap (λ (k : ℕ). afterRun k (roomOf b) (startedOf (length b) σ) .len) (sym q) ∙ ap (λ (r : Run). r .len) (line-ends b fin σ set .ready-then)))
+    go (suc k) q = omega arith
+
 pub on-time : (mid : ℕ) (es : List Event) (s : Sign) (b : List ℕ) (σ : Settings) → Good s → s .room ≡ roomOf b → s .run ≡ startedOf (length b) σ
     → settingsSound σ ≡ true
     → judgeOf b ≡ Finite
@@ -159,7 +170,6 @@ pub on-time : (mid : ℕ) (es : List Event) (s : Sign) (b : List ℕ) (σ : Sett
 unfolding readyOf
 on-time mid es s b σ g w e set fin u =
     record {
-      foretold = forecast-holds b σ set fin;
       busy = λ before z. busy n before (sym (ap (λ (t : Sign). t .run .len) (driver-after mid es s u)) ∙ z);
       holds = λ before.
           ap (λ (t : Sign). t .room) (driver-after mid es s u) ∙ steps-hold n s g (λ k h. busy k (omega arith)) ∙ w;
@@ -167,6 +177,10 @@ on-time mid es s b σ g w e set fin u =
       empty = λ all.
           ap (λ (t : Sign). t .room) (driver-after mid es s u) ∙ ap (λ (k : ℕ). afterSteps k s .room) all ∙ steps-empty m s g some busy none;
       said = λ all. driver-said mid es s u ∙ ap (λ (k : ℕ). saidSteps k s) all ∙ started-said s b σ g w e m ∙ l .performed;
+      leaves = λ all.
+          ap (λ (t : Sign). t .run .settings) (driver-after mid es s u)
+          ∙ ap (λ (k : ℕ). afterSteps k s .run .settings) all
+          ∙ ap (λ (r : Run). r .settings) (started-run s b σ g w e m ∙ l .ready-then);
     }
   where
     l : LineEnds b σ
@@ -185,8 +199,4 @@ on-time mid es s b σ g w e set fin u =
     none = ap (λ (r : Run). r .len) (started-run s b σ g w e m ∙ l .ready-then)
 
     some : 0 < m
-    some = go m refl
-      where
-        go : (k : ℕ) → m ≡ k → 0 < m
-        go zero q = absurd (started-busy b false fin σ set (sym (ap (λ (r : Run). r .len) e) ∙ ap (λ (k : ℕ). afterSteps k s .run .len) (sym q) ∙ none))
-        go (suc k) q = omega arith
+    some = line-some b σ set fin

@@ -1,4 +1,4 @@
--- The packets of a body received in order (demand 2).
+-- The packets of a body received in order: demand 2, by J9 to J12.
 use Prim.Native.Nat.{ℕ, zero, suc, _<_}
 use mathlib.Core.List.{List}
 use mathlib.Core.Path.{_≡_}

@@ -1,5 +1,5 @@
 -- What may happen to a record between power-on and power-off: steps, and bytes off the line, in any order.
--- The driver's wish: "a line that has started to run runs to its end, once".
+-- The driver's wish: a line that has started runs to its end, once. J4, J5, J8, J13 and N0 say what changes nothing.
 use Prim.Native.Nat.{ℕ, zero, suc}
 use mathlib.Core.List.{List, [], _∷_}
 use mathlib.Core.Path.{_≡_}

@@ -1,4 +1,4 @@
--- A record that the code can hold, and that is sound.
+-- A record that the code can hold, and that is sound (R1).
 use mathlib.Core.Bool.{true}
 use mathlib.Core.Path.{_≡_}
 use lib.ListN.{length}

@@ -1,4 +1,5 @@
--- A normal packet that passed the reader, judged in 01's order and joined: the order is `hear`'s, and here are the records after it.
+-- A normal packet that passed the reader, judged and joined: J4 to J12. The order is `hear`'s, and here are the records
+-- after it.
 use Prim.Native.Nat.{ℕ}
 use mathlib.Core.List.{List}
 use lib.ListN.{length, replicate}

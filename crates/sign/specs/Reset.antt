@@ -1,6 +1,4 @@
--- Power-on and reset.
--- 01: "Reset drops collection and body and sets Ready, pace 4, one scan, AUX floating, last ID 41h; dim threshold and forced brightness
--- stay. Power-on is the same with threshold 16 and no forced brightness." 16: "unsound record, before all else in calls that take one".
+-- Power-on (J15) and reset (J14); the call that resets refuses an unsound record (N16).
 use Prim.Native.Nat.{ℕ}
 use Rattle.basis.specs.Choice.{when}
 use Rattle.perform.specs.declared.settings.Settings.{Settings}

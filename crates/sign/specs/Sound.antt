@@ -1,6 +1,4 @@
--- Which records are sound, one rule for each part.
--- 01: "A record is sound if: last ID 0 to 3Fh or 41h; pace, scans, threshold in range, brightness 0 or 2 to 31; the collected packets ..;
--- unused room holds zeros; Ready has no body, and places and count 0; Busy collects nothing, has an accepted body and .."
+-- Which records are sound, part by part (R1 to R8), and no part more (R9).
 -- While Ready the room is the collected packets', while Busy it is the running body's.
 use mathlib.Core.Bool.{Bool}
 use lib.Dec.{eqb}

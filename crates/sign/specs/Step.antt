@@ -1,5 +1,5 @@
--- One step of the record: 16 for an unsound one, which stays; otherwise the run goes on by a step and all else stays, but that the
--- room is emptied where the body has run to its end.
+-- One step of the record: 16 for an unsound one, which stays (N16); otherwise the run goes on by a step (S1, S12) and
+-- all else stays, but that the room is emptied where the body has run to its end (S11, R5).
 use Prim.Native.Nat.{ℕ}
 use mathlib.Core.List.{List}
 use mathlib.Core.Bool.{not}

@@ -1,5 +1,4 @@
--- What the sign tells: its reply to a query, and its running body.
--- 01: "The sign answers a query with 8 bytes: .. last ID, `R` or `B`, `S` or `F` as the caller says the AUX pin reads"; 16, then 34.
+-- What the sign tells: its reply to a query (J16, W10, W11), and its running body (S28). N16, then N34.
 use Prim.Native.Nat.{ℕ}
 use mathlib.Core.List.{List, [], _∷_}
 use mathlib.Core.Bool.{Bool, not}

@@ -1,10 +1,10 @@
-// The sign's record (01, "Joining"): each call takes it whole and hands back the next one with its answer.
+// The sign's record (J1): each call takes it whole and hands back the next one with its answer (J2, P7).
 // No public call has a `requires`: each answers for any record and any bytes, 16 for an unsound record before all else.
-//   sound    which records are sound                               "A record is sound if: .."
-//   reset    power-on and reset                                    "Reset drops collection and body and sets Ready, .."
-//   receive  the record after what `hear` makes of bytes            "nothing is being collected, and the ID is last completed"
-//   steps    one step of the running program                       "A step performs one command"
-//   tell     the reply to a query, and a copy of the running body   "One call copies the running body (none when Ready)"
+//   sound    which records are sound                               R1 to R9
+//   reset    power-on and reset                                    J14, J15
+//   receive  the record after what `hear` makes of bytes           J3, J9 to J14
+//   steps    one step of the running program                       S1, S11, S12
+//   tell     the reply to a query, and a copy of the running body  J16, S28
 mod receive;
 mod reset;
 mod sound;

@@ -1,6 +1,5 @@
-// Bytes off the line: the record after what was heard. Answers to 01, "Joining": "the data joined by position is the body and comes with
-// the answer, nothing is being collected, and the ID is last completed. If the body is an accepted program the sign is Busy at its
-// first command; if not, .. the sign stays Ready", and to 16.
+// Bytes off the line: the record after what was heard (J3), or 16. A released body (J10) that is a program starts
+// (J11), and with any other the sign stays Ready (J12).
 use crate::Received;
 use crate::Sign;
 use crate::reset::rested;

@@ -1,5 +1,4 @@
-// Power-on and reset. Answers to 01: "Reset drops collection and body and sets Ready, pace 4, one scan, AUX floating, last ID 41h; dim
-// threshold and forced brightness stay. Power-on is the same with threshold 16 and no forced brightness."
+// Power-on (J15) and reset (J14).
 use crate::Cleared;
 use crate::Sign;
 use collect::begun;

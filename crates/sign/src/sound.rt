@@ -1,5 +1,5 @@
-// Which records are sound. Answers to 01's last paragraph of "Numbers for no": "last ID 0 to 3Fh or 41h; .. Busy collects nothing";
-// the parts of the collection and of the run are decided by their own crates.
+// Which records are sound (R1): the last ID (R2), and no collection when Busy (R7). The crates `collect` and `machine`
+// decide on the parts of the collection and of the run.
 use crate::Sign;
 use hear::framed;
 ghost use mathlib.Core.Path.{_≡_};

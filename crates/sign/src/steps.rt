@@ -1,5 +1,5 @@
-// One step of the running program, with the record around it. Answers to 01, "One step, and what it costs", and to 16; the run's own
-// part of soundness is tested by its step.
+// One step of the running program, with the record around it: S1, S11 and S12, and N16. The step of the run tests its
+// own part of soundness.
 use crate::Sign;
 use crate::Stepped;
 use hear::framed;

@@ -1,5 +1,4 @@
-// What the sign tells: the reply to a query, and the running body for the driver. Answers to 01: "The sign answers a query with 8
-// bytes", "One call copies the running body (none when Ready) into a lent buffer and tells its length; bytes behind it stay", and to 16 and 34.
+// What the sign tells: the reply to a query (J16), and the running body for the driver (S28). N16, then N34.
 use crate::Sign;
 use packet::Written;
 use reply::write_reply;

@@ -1,4 +1,4 @@
--- Totals of steps, scans and milliseconds, each in its unit: one command's, a sum, and some times over.
+-- Totals of steps, scans and milliseconds (S22), each in its unit (S14): one command's, a sum, and some times over.
 use Prim.Native.Nat.{ℕ}
 use Rattle.units.specs.Units.{sumOf, timesOf as timesOver}
 use Rattle.perform.specs.declared.price.Performed.{Performed}

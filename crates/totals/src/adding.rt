@@ -1,5 +1,4 @@
-// Totals made: of nothing, of one command, of two totals, of totals some times over. Answers to 01: "Shifts, scans and milliseconds are
-// counted apart and never added to each other".
+// Totals made: of nothing, of one command, of two totals, of totals some times over, each unit by itself (S14).
 use crate::Totals;
 use perform::Performed;
 use units::Millis;

@@ -1,5 +1,5 @@
-// Writes a body as packets into a lent buffer ("The writer gives ..", numbers 31 to 34). A refusal changes no byte, and bytes past the
-// written ones stay.
+// Writes a body as packets into a lent buffer: W13 to W18 with N31 to N34, in the form of P9. A refusal changes no
+// byte, and bytes after the written ones stay.
 use packet::Written;
 use packet::write_normal;
 ghost use mathlib.Core.Path.{_≡_};

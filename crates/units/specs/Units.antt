@@ -1,4 +1,4 @@
--- The units' sums and conversions: exact, and at the greatest 64-bit number where that is passed.
+-- The units' sums (S14) and conversions (S19, S20): exact, and at the greatest 64-bit number where that is passed.
 use Prim.Native.Nat.{ℕ, _+_, _-_, _*_, _/_, _^_, min}
 
 -- the greatest number that a unit holds

@@ -1,5 +1,5 @@
-// Steps, shifts, scans and milliseconds ("counted apart and never added to each other"): one tuple struct a unit, with its own
-// sum and its own conversion to the next. A sum or a product past 64 bits stays at the greatest number.
+// Steps, shifts, scans and milliseconds (S14): one tuple struct a unit, with its own sum and its own conversion to the
+// next (P11). A sum or a product past 64 bits stays at the greatest number.
 //   capped   the sum and the product that stay at the greatest number
 ghost use mathlib.Core.Path.{_≡_};
 ghost use Prim.Native.Nat.{_*_};

@@ -1,4 +1,4 @@
--- What a receive is told as: its words, and the body after them.
+-- What a receive is told as: its words (J3, J12), and the released body after them (J10).
 use Prim.Native.Nat.{ℕ}
 use mathlib.Core.List.{List, [], _∷_, _++_}
 use lib.Dec.{eqb}

@@ -1,4 +1,5 @@
--- How an answer is told: its values as words at the front of a lent buffer, and the call's result. The values are `toldOf` of the answer's own crate.
+-- How an answer is told: its values as words at the front of a lent buffer, or 252 (N252), and the call's result. The
+-- values are `toldOf` of the answer's own crate (P13).
 use Prim.Native.Nat.{ℕ}
 use mathlib.Core.List.{List, [], _∷_}
 use lib.Dec.{ltb}

@@ -2,10 +2,10 @@
 // `requires`: a refusal writes nothing, and neither is anything written into an answer that is too short, which is 252.
 //   laying    words of four bytes, lowest first, in a row
 //   results   the number for no with a value above it, and what a writer wrote
-//   wire      packets and replies that were read      01, "The packet"
-//   line      a body that was judged or forecast      01, "The program", "One step, and what it costs"
-//   received  what bytes off the line did             01, "Joining"
-//   stepped   what a step did                         01, "One step, and what it costs"
+//   wire      packets and replies that were read      W9, W12
+//   line      a body that was judged or forecast      L29, S22 to S25, S32
+//   received  what bytes off the line did             J3, J10, J12
+//   stepped   what a step did                         S1 to S5, S12
 mod laying;
 mod line;
 mod received;

@@ -1,4 +1,4 @@
-// A body that was judged or forecast. Answers to 01, "The program" and "The forecast gives totals of steps, scans and milliseconds".
+// A body that was judged (L29) or forecast (S22 to S25, S32).
 use crate::laying::lay;
 use crate::results::result;
 use judge::Verdict;
@@ -20,24 +20,27 @@ pub fn tell_verdict(verdict: Verdict) -> u32
     }
 }
 
-// How long a body runs: four words.
+// How long a body runs, and the pace and the scans that it leaves: six words.
 pub fn tell_forecast(foretold: Foretold, answer: &mut [u8]) -> u32
-    ensures result { λ r. ⌜ r ≡ firstOr (answerRow 16 (now (answer .entry)) ∷ []) (foretoldResult foretold) ⌝ }
-    ensures told { λ _. ⌜ now (answer .exit) ≡ toldIn 16 (wordsOf (toldOf foretold .values)) (now (answer .entry)) ⌝ }
+    ensures result { λ r. ⌜ r ≡ firstOr (answerRow 24 (now (answer .entry)) ∷ []) (foretoldResult foretold) ⌝ }
+    ensures told { λ _. ⌜ now (answer .exit) ≡ toldIn 24 (wordsOf (toldOf foretold .values)) (now (answer .entry)) ⌝ }
 {
-    if answer.len() < 16 {
+    if answer.len() < 24 {
         return 252;
     }
     match foretold {
-        Foretold::Ends(totals) => {
+        Foretold::Ends(totals, pace, scans) => {
             let steps = totals.steps;
             let shown = totals.scans;
             let millis = totals.millis;
-            lay(&[0, steps.0, shown.0, millis.0], answer);
+            lay(
+                &[0, steps.0, shown.0, millis.0, pace as u64, scans as u64],
+                answer,
+            );
             result(0, 0)
         }
         Foretold::Endless => {
-            lay(&[1, 0, 0, 0], answer);
+            lay(&[1, 0, 0, 0, 0, 0], answer);
             result(0, 0)
         }
         Foretold::Refused(n, place) => result(n, place),

@@ -1,4 +1,4 @@
-// A sign that received. Answers to 01: "Released: the data joined by position is the body and comes with the answer".
+// A sign that received (J3), with the body that was released (J10) and its refusal (J12).
 use crate::laying::lay;
 use hear::Outcome;
 use judge::Verdict;

@@ -1,4 +1,4 @@
-// A sign that stepped. Answers to 01: "A step performs one command and answers its kind, ..".
+// A sign that stepped: the seven values of S1, or Idle (S12).
 use crate::laying::lay;
 use machine::Answer;
 use perform::Performed;
@@ -10,7 +10,7 @@ ghost use Rattle.machine.specs.Step.{valuesOf, toldOf};
 ghost use Rattle.words.specs.Words.{wordsOf};
 ghost use Rattle.words.specs.Told.{answerRow, firstOr, toldIn};
 
-// A command's kind as a number, in the order of 01's table.
+// A command's kind as a number, in the order of the table in program/specs/Table.
 fn kind_code(kind: Kind) -> u64
     ensures { λ r. ⌜ r ≡ kindOf kind ⌝ }
 {

@@ -1,4 +1,4 @@
-// Packets and replies that were read. Answers to 01, "The packet".
+// Packets (W9) and replies (W12) that were read.
 use crate::laying::lay;
 use reader::Reading;
 use reply::Status;

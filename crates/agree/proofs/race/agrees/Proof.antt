@@ -37,17 +37,8 @@ stepped-requires c κs = search needs
 enum-known-told : tie.Need-enum-known-told
 enum-known-told c = search needs
 
-same-requires : tie.Need-same-requires
-same-requires c κs = search needs
-
 returns-2 : tie.Need-returns-2
 returns-2 c = search needs
-
-enum-told : tie.Need-enum-told
-enum-told c = search needs
-
-enum-told-2 : tie.Need-enum-told-2
-enum-told-2 c = search needs
 
 returns-3 : tie.Need-returns-3
 returns-3 c = search needs
@@ -55,8 +46,23 @@ returns-3 c = search needs
 returns-4 : tie.Need-returns-4
 returns-4 c = search needs
 
+same-requires : tie.Need-same-requires
+same-requires c κs = search needs
+
+enum-told : tie.Need-enum-told
+enum-told c = search needs
+
+enum-told-2 : tie.Need-enum-told-2
+enum-told-2 c = search needs
+
 returns-5 : tie.Need-returns-5
 returns-5 c = search needs
+
+returns-6 : tie.Need-returns-6
+returns-6 c = search needs
+
+returns-7 : tie.Need-returns-7
+returns-7 c = search needs
 
 pub agrees-spec : {M : Type 1} → statement M
 agrees-spec =
@@ -70,10 +76,12 @@ agrees-spec =
     slice-aggregate-stepped
     stepped-requires
     enum-known-told
-    same-requires
     returns-2
-    enum-told
-    enum-told-2
     returns-3
     returns-4
-    returns-5)
+    same-requires
+    enum-told
+    enum-told-2
+    returns-5
+    returns-6
+    returns-7)

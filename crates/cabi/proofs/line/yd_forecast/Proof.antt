@@ -23,7 +23,7 @@ same-length c = search needs
 returns-2 : tie.Need-returns-2
 returns-2 c =
     let a = c .before .before .before .before .before .before .before .before .args in
-    told-of toldOf (λ (t : Told). resultOf (t .number) (t .place)) 16 (a .answer .now) (c .before .before .before .before .forecast .result) (forecastOf (a .body .now) (a .pace) (a .scans)) (c .before .before .before .before .forecast .ensures) (c .before .before .tell-forecast .ensures)
+    told-of toldOf (λ (t : Told). resultOf (t .number) (t .place)) 24 (a .answer .now) (c .before .before .before .before .forecast .result) (forecastOf (a .body .now) (a .pace) (a .scans)) (c .before .before .before .before .forecast .ensures) (c .before .before .tell-forecast .ensures)
 
 pub yd-forecast-spec : {M : Type 1} → statement M
 yd-forecast-spec =

@@ -1,4 +1,4 @@
--- `join` judges in 01's order: Repeat, 12, then by the slots that the packet goes into.
+-- `join` judges in the order of J3: Repeat, 12, then by the slots that the packet goes into.
 use Rattle.basis.proofs.Tests.{tests}
 use Rattle.collect.specs.Slots.{collectionOf}
 use Rattle.hear.specs.Join.{leftOf}

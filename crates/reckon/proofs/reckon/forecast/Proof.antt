@@ -4,7 +4,7 @@ use Rattle.basis.proofs.Tests.{tests}
 use Rattle.judge.specs.Verdict.{judgeOf}
 use Rattle.judge.proofs.Turns.{front-judged}
 use Rattle.reckon.specs.Forecast.{forecastOf, settingsAt}
-use Rattle.reckon.proofs.Forecasts.{in-range, settings-sound, tallies-price}
+use Rattle.reckon.proofs.Forecasts.{in-range, settings-sound, tallies-price, exit-settled}
 use Rattle.reckon.proofs.Walks.{told-same}
 use borrow.Author.Needs.{needs}
 use Rattle.reckon.proofs.reckon.forecast.Statement.{statement}
@@ -51,7 +51,7 @@ returns-6 c =
     let b = a .body .now in
     let set = settings-sound b (a .pace) (a .scans) (search needs) (search needs) (search needs) (search needs) in
     c .walk .ensures
-    ∙ told-same (judgeOf b) _ _ (λ e. tallies-price b e (settingsAt (a .pace) (a .scans)) set)
+    ∙ told-same (judgeOf b) _ _ _ _ (λ e. (tallies-price b e (settingsAt (a .pace) (a .scans)) set, exit-settled b e (settingsAt (a .pace) (a .scans)) set))
     ∙ sym (in-range b (a .pace) (a .scans) (search needs) (search needs) (search needs) (search needs) (judgeOf b) refl)
 
 pub forecast-spec : {M : Type 1} → statement M

@@ -16,13 +16,19 @@ enum-known-flow : tie.Need-enum-known-flow
 enum-known-flow c = search needs
 
 returns : tie.Need-returns
-returns c = sym (ap (λ (f : Flow). foretoldOf f (c .before .before .before .before .args .sums .at .totals)) (c .enum-told .given .1))
+returns c =
+    let s = c .before .before .before .before .before .args .sums in
+    sym (ap (λ (f : Flow). foretoldOf f (s .at .totals) (s .at .settings)) (c .enum-told .given .1))
 
 returns-2 : tie.Need-returns-2
-returns-2 c = sym (ap (λ (f : Flow). foretoldOf f (c .before .before .before .before .args .sums .at .totals)) (c .enum-told2 .given .1))
+returns-2 c =
+    let s = c .before .before .before .before .before .args .sums in
+    sym (ap (λ (f : Flow). foretoldOf f (s .at .totals) (s .at .settings)) (c .enum-told2 .given .1))
 
 returns-3 : tie.Need-returns-3
-returns-3 c = sym (ap (λ (f : Flow). foretoldOf f (c .before .before .before .before .before .args .sums .at .totals)) (c .before .flow .given .1))
+returns-3 c =
+    let s = c .before .before .before .before .before .before .args .sums in
+    sym (ap (λ (f : Flow). foretoldOf f (s .at .totals) (s .at .settings)) (c .before .flow .given .1))
 
 pub told-spec : {M : Type 1} → statement M
 told-spec = tie.close (tie.spec enum-told enum-told-2 enum-known-flow returns returns-2 returns-3)

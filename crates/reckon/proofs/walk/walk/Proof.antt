@@ -9,8 +9,7 @@ use Rattle.loops.specs.Flow.{turnedOf}
 use Rattle.judge.specs.declared.Verdict.{Verdict}
 use Rattle.loops.proofs.Moves.{turned-is}
 use Rattle.judge.proofs.Turns.{place-grows, on-stop, begun-front}
-use Rattle.course.specs.Price.{leavesOf}
-use Rattle.course.specs.Tree.{treeIn}
+use Rattle.course.specs.Tree.{exitOf, treeIn}
 use Rattle.reckon.specs.Forecast.{pricesOf, byVerdict}
 use Rattle.reckon.proofs.Walks.{Stands, stands-next, stands-end, stands-first}
 use borrow.Author.Needs.{needs}
@@ -18,7 +17,7 @@ use Rattle.reckon.proofs.walk.walk.Statement.{statement}
 use Rattle.reckon.proofs.walk.walk.Tie as tie
 
 abbrev Inv-loop : tie.InvT-loop
-Inv-loop body place₀ flow₀ sums₀ place flow sums = Stands body (pricesOf (treeIn body .block) (sums₀ .entry)) (leavesOf (treeIn body .block) (sums₀ .entry)) place flow sums
+Inv-loop body place₀ flow₀ sums₀ place flow sums = Stands body (pricesOf (treeIn body .block) (sums₀ .entry)) (exitOf (treeIn body .block) (sums₀ .entry)) place flow sums
 
 abbrev μ-loop : tie.MeasureT-loop
 μ-loop body place₀ flow₀ sums₀ place flow sums = length body - place
@@ -45,8 +44,9 @@ returns : tie.Need-returns Inv-loop μ-loop
 returns c =
     let b = c .before .before .before .before .before .before .before .before .before .before .args .body .now in
     let l = c .before .before .before .before .before .before .loop in
+    let σ = c .before .before .before .before .before .before .before .before .before .before .args .settings in
     let e = sym (turned-is b (l .place) (l .flow)) ∙ ap (λ (r : Reading). turnedOf r (l .place) (l .flow)) (sym (c .before .before .before .before .read-command .ensures)) ∙ sym (c .before .before .before .turned .ensures) ∙ c .before .said .given .1 in
-    ap (λ (v : Verdict). byVerdict v (pricesOf (treeIn b .block) (c .before .before .before .before .before .before .before .before .before .before .args .settings))) (sym (on-stop b (l .place) _ _ (l .flow) (c .before .before .before .before .before .loop-test .taken) e) ∙ l .inv .1 .0 ∙ sym (begun-front b (c .before .before .before .before .before .before .before .before .before .before .pre) .0))
+    ap (λ (v : Verdict). byVerdict v (pricesOf (treeIn b .block) σ) (exitOf (treeIn b .block) σ)) (sym (on-stop b (l .place) _ _ (l .flow) (c .before .before .before .before .before .loop-test .taken) e) ∙ l .inv .1 .0 ∙ sym (begun-front b (c .before .before .before .before .before .before .before .before .before .before .pre) .0))
 
 enum-known-said-2 : tie.Need-enum-known-said-2 Inv-loop μ-loop
 enum-known-said-2 c = search needs

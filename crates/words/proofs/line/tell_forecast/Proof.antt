@@ -16,6 +16,12 @@ returns c = search tests
 enum-known-foretold : tie.Need-enum-known-foretold
 enum-known-foretold c = search needs
 
+cast-t17 : tie.Need-cast-t17
+cast-t17 c = search needs
+
+cast-t18 : tie.Need-cast-t18
+cast-t18 c = search needs
+
 slice-aggregate-lay : tie.Need-slice-aggregate-lay
 slice-aggregate-lay c = search needs
 
@@ -50,7 +56,7 @@ returns-2 : tie.Need-returns-2
 returns-2 c =
     let g = c .before .before .before .before .before .before .before .before .before .before .foretold .given in
     let a = c .before .before .before .before .before .before .before .before .before .before .before .before .before .before .args in
-    let t = answers toldOf (λ (t : Told). resultOf (t .number) (t .place)) 16 (a .answer .now) (Ends (g .0 .0)) (a .foretold) (search needs) (sym (g .1)) (c .before .before .before .lay .ensures) in
+    let t = answers toldOf (λ (t : Told). resultOf (t .number) (t .place)) 24 (a .answer .now) (Ends (g .0 .0) (g .0 .1 .0) (g .0 .1 .1 .0)) (a .foretold) (search needs) (sym (g .1)) (c .before .before .before .lay .ensures) in
     (c .result .ensures ∙ t .0, t .1)
 
 same-length-2 : tie.Need-same-length-2
@@ -59,7 +65,7 @@ same-length-2 c = search needs
 returns-3 : tie.Need-returns-3
 returns-3 c =
     let a = c .before .before .before .before .before .before .before .before .before .before .args in
-    let t = answers toldOf (λ (t : Told). resultOf (t .number) (t .place)) 16 (a .answer .now) Endless (a .foretold) (search needs) (sym (c .before .before .before .before .before .before .enum-told .given .1)) (c .before .before .before .lay2 .ensures) in
+    let t = answers toldOf (λ (t : Told). resultOf (t .number) (t .place)) 24 (a .answer .now) Endless (a .foretold) (search needs) (sym (c .before .before .before .before .before .before .enum-told .given .1)) (c .before .before .before .lay2 .ensures) in
     (c .result2 .ensures ∙ t .0, t .1)
 
 returns-4 : tie.Need-returns-4
@@ -67,7 +73,7 @@ unfolding wordsOf
 returns-4 c =
     let g = c .before .before .foretold2 .given in
     let a = c .before .before .before .before .before .before .args in
-    let t = answers toldOf (λ (t : Told). resultOf (t .number) (t .place)) 16 (a .answer .now) (Refused (g .0 .0) (g .0 .1 .0)) (a .foretold) (search needs) (sym (g .1)) (told-none _ (a .answer .now) (search needs)) in
+    let t = answers toldOf (λ (t : Told). resultOf (t .number) (t .place)) 24 (a .answer .now) (Refused (g .0 .0) (g .0 .1 .0)) (a .foretold) (search needs) (sym (g .1)) (told-none _ (a .answer .now) (search needs)) in
     (c .result3 .ensures ∙ t .0, t .1)
 
 pub tell-forecast-spec : {M : Type 1} → statement M
@@ -76,6 +82,8 @@ tell-forecast-spec =
     (tie.spec
     returns
     enum-known-foretold
+    cast-t17
+    cast-t18
     slice-aggregate-lay
     lay-requires
     result-requires

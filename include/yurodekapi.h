@@ -7,13 +7,15 @@
  * nothing is said of the value it is 0. A call that refuses changes no lent byte.
  *
  * Buffers. A buffer is a pointer and a length. The pointer must be good for that many bytes, and must not be null, not even at length 0.
- * Buffers of one call must not overlap if one of them is written. An answer may be lent more bytes than it needs: the rest stays.
+ * Buffers of one call must not overlap if one of them is written. An answer may be lent more bytes than it needs: the rest stays. No buffer
+ * needs an alignment.
  *
  * Answers. An answer is a row of words of 4 bytes, lowest byte first, on any machine. Read it only after a yes: yd_word reads one word,
  * and the yd_get functions read a whole answer into a struct.
  *
  * Names. YD_NO_ is a number for no, YD_READ_ what a packet is, YD_DID_ what a packet did, YD_KIND_ what a step performed, YD_AT_ an offset
- * in the image, YD_WORD_ the index of a word in an answer. A name that ends in _SIZE is a number of bytes.
+ * in the image, YD_WORD_ the index of a word in an answer, YD_AUX_ a reading of the AUX pin. A name that ends in _SIZE is a number of bytes
+ * (YD_NO_IMAGE_SIZE alone is a number for no), and one that ends in _OFFSET is where bytes begin.
  *
  * Threads. The library has no globals, so calls that share no bytes may run at once. An image is used by one caller at a time; different
  * images may be used at once.
@@ -237,7 +239,7 @@ static inline void yd_get_forecast(const uint8_t *answer, struct yd_forecast_ans
  * One room holds the collected packets while the sign is Ready and the running body while it is Busy: it never needs both at once.
  * While Ready, the data of position p stand from byte 9 + 14p on. While Busy, the body stands from byte 9 on, and the ID being
  * collected, its total and all six lengths are 0. Room that is not used is zeros; anything else there is unsound.
- * A sound record has one image only, so a query, a Repeat and an Idle step change no byte of it. */
+ * A sound record has one image only, so a query, a Repeat and an Idle step change no byte of it. The layout belongs to this version. */
 enum {
     YD_AT_LAST = 0,        /* last completed ID, 41h after a reset */
     YD_AT_ID = 1,          /* ID being collected, 0 if none */
@@ -300,7 +302,9 @@ static inline void yd_get_receive(const uint8_t *answer, struct yd_receive_answe
         receive->body[i] = answer[YD_RECEIVE_BODY_OFFSET + i];
 }
 
-/* One step. A Ready sign is Idle: all words are 0, and the image stays. No: 251, 16, 252. */
+/* One step. The image is the one after the command, when the command's time begins: wait its milliseconds before the next step. So the image
+ * is Ready as soon as the last command was stepped, and holds no body any more: copy the body before. Pace, scan setting and brightness in
+ * force are in the image. A Ready sign is Idle: all words are 0, and the image stays. No: 251, 16, 252. */
 enum {
     YD_KIND_IDLE = 0,
     YD_KIND_II = 1,

@@ -232,10 +232,10 @@ module _ {R : Type 0} (u : Calls R) (k : Keeps u) where
     sound-receive mid b = go (readOf mid b) refl
       where
         go : (x : Reading) → readOf mid b ≡ x → SameHeard u (u .receive r mid b) (ours .receive s mid b)
-        go QueryRead e = stays-same u r _ _ (k .obeys .hears r good .queried mid b e) _ (ours-obeys .hears s good .queried mid b e)
-        go ResetRead e = heeds-same u _ _ _ (k .obeys .hears r good .cleared mid b e) (ours-obeys .hears s good .cleared mid b e)
+        go QueryRead e = stays-same u r _ _ (k .obeys .answers r good .queried mid b e) _ (ours-obeys .answers s good .queried mid b e)
+        go ResetRead e = heeds-same u _ _ _ (k .obeys .answers r good .cleared mid b e) (ours-obeys .answers s good .cleared mid b e)
         go (Normal id total position len) e = joins-same mid b id total position len e
-        go (Unread n) e = stays-same u r _ _ (k .obeys .hears r good .unread mid b n e) _ (ours-obeys .hears s good .unread mid b n e)
+        go (Unread n) e = stays-same u r _ _ (k .obeys .answers r good .unread mid b n e) _ (ours-obeys .answers s good .unread mid b n e)
 
     sound-step : SameNext u (u .step r) (ours .step s)
     sound-step =

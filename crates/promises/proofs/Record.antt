@@ -35,7 +35,7 @@ use Rattle.service.proofs.Copies.{copy-repeats, busy-waits}
 use Rattle.service.proofs.Joins.{unread, queried, cleared, begins, other-total, goes-in, again, differs}
 use Rattle.promises.specs.Unit.{Calls, leftBy, ours, heardIn, steppedIn, clearedIn}
 use Rattle.promises.specs.Wire.{Lays}
-use Rattle.promises.specs.Record.{Heeds, Hears, Joins, Steps, Clears, Obeys, stays}
+use Rattle.promises.specs.Record.{Heeds, Answers, Joins, Steps, Clears, Obeys, stays}
 
 -- a record of ours that stays, told an outcome
 still : (s : Sign) (o : Outcome) (x : Received) → x ≡ staysOf s o → heardIn x ≡ stays s (heardIn (staysOf s o) .told)
@@ -50,9 +50,9 @@ heeds x y e =
       body = ap (λ (z : Received). heardIn z .body) e;
     }
 
-pub ours-hears : (s : Sign) → Good s → Hears ours s
+pub ours-answers : (s : Sign) → Good s → Answers ours s
 unfolding staysOf
-ours-hears s good =
+ours-answers s good =
     record {
       unread = λ mid b n e. still s _ _ (unread s good mid b n e);
       queried = λ mid b e. still s _ _ (queried s good mid b e);
@@ -119,7 +119,7 @@ pub ours-obeys : Obeys ours
 ours-obeys =
     record {
       powers = refl;
-      hears = ours-hears;
+      answers = ours-answers;
       joins = ours-joins;
       steps = ours-steps;
       clears = ours-clears;

@@ -36,7 +36,7 @@ pub record Heeds {R : Type 0} (u : Calls R) (h : Heard R) (x : Received) : Type 
   pub body : h .body ≡ heardIn x .body
 
 -- bytes that are no normal packet
-pub record Hears {R : Type 0} (u : Calls R) (r : R) : Type 0 where
+pub record Answers {R : Type 0} (u : Calls R) (r : R) : Type 0 where
   pub unread : (mid : ℕ) (b : List ℕ) (n : ℕ) → readOf mid b ≡ Unread n → u .receive r mid b ≡ stays r (no n)
   pub queried : (mid : ℕ) (b : List ℕ) → readOf mid b ≡ QueryRead → u .receive r mid b ≡ stays r (outcomeTold Query)
   pub cleared : (mid : ℕ) (b : List ℕ) → readOf mid b ≡ ResetRead → Heeds u (u .receive r mid b) (staysOf (resetOf (u .holds r)) Reset)
@@ -79,7 +79,7 @@ pub record Clears {R : Type 0} (u : Calls R) (r : R) : Type 0 where
 
 pub record Obeys {R : Type 0} (u : Calls R) : Type 0 where
   pub powers : u .holds (u .power) ≡ powerOn
-  pub hears : (r : R) → Good (u .holds r) → Hears u r
+  pub answers : (r : R) → Good (u .holds r) → Answers u r
   pub joins : (r : R) → Good (u .holds r) → (mid : ℕ) (b : List ℕ) (id total position len : ℕ) → readOf mid b ≡ Normal id total position len
       → Joins u r mid b id total position (take len (drop 5 b))
   pub steps : (r : R) → Good (u .holds r) → Steps u r

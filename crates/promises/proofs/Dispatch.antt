@@ -25,10 +25,10 @@ use Rattle.service.specs.Driver.{step, stepsIn}
 use Rattle.service.specs.Good.{Good}
 use Rattle.service.proofs.Punctual.{line-some}
 use Rattle.service.proofs.Quiets.{quiet-keeps, quiet-keeps-then, endless-keeps}
-use Rattle.promises.specs.Unit.{Next, ours}
+use Rattle.promises.specs.Unit.{Next, ours, valueAt}
 use Rattle.promises.specs.Delivery.{packetIn, behind}
 use Rattle.promises.specs.Line.{toldOfAll, thenStep, after, Started, Runs}
-use Rattle.promises.specs.Dispatch.{valueAt, sumAt, AllYes, Repeated, Arrives, GoesOn, DispatchToReady}
+use Rattle.promises.specs.Dispatch.{sumAt, AllYes, Repeated, Arrives, GoesOn, DispatchToReady}
 use Rattle.promises.proofs.Tellings.{finite-told, endless-told}
 use Rattle.promises.proofs.Delivery.{Written, written, gets, behind-good, behind-last, copy-is}
 use Rattle.promises.proofs.Line.{after-is, started-set, runs, goes, ours-runs}

@@ -2,20 +2,29 @@
 use Prim.Native.Nat.{ℕ, _+_, _≤_, _<_}
 use mathlib.Core.Bool.{Bool, true, false, not}
 use mathlib.Core.List.{List, [], _∷_}
-use mathlib.Core.Path.{_≡_, refl, sym, ap, _∙_}
+use mathlib.Core.Path.{_≡_, refl, sym, ap, _∙_, subst}
 use native.Mathlib.Omega.{arith}
 use lib.Dec.{eqb, leb}
 use lib.ListN.{length, take, drop}
-use borrow.Author.Tests.{eq-eqb, ne-eqb}
+use borrow.Author.Tests.{eqb-true, eqb-false}
 use Rattle.basis.specs.Choice.{when, _and_}
 use Rattle.basis.specs.Rows.{firstOf}
+use Rattle.basis.specs.Told.{Told}
 use Rattle.basis.proofs.Choices.{when-true}
 use Rattle.basis.proofs.Tests.{tests}
 use Rattle.packet.specs.Write.{shortBy, answerOf, bufferOf, toldOf as writtenTold}
 use Rattle.reader.specs.Read.{readOf}
 use Rattle.reader.specs.declared.read.Reading.the-variants.{Normal}
 use Rattle.machine.specs.declared.Answer.the-variants.{Idle}
-use Rattle.machine.proofs.Keeps.{step-ready}
+use Rattle.perform.specs.Price.{answerOf as performedOf}
+use Rattle.perform.specs.declared.settings.Settings.{Settings}
+use Rattle.loops.specs.Token.{Tok, good as right, bad, act, rep, close, forever, again as repeats, get}
+use Rattle.loops.proofs.Values.{get-act}
+use Rattle.course.specs.Steps.{saidAt}
+use Rattle.machine.specs.Sound.{soundOf as runSound}
+use Rattle.machine.specs.Step.{sayOf, stepOf as runStep, toldOf as answerTold}
+use Rattle.machine.specs.declared.Stepped.{Stepped as RunStepped}
+use Rattle.machine.proofs.Keeps.{step-ready, step-busy}
 use Rattle.hear.specs.declared.Outcome.{Outcome}
 use Rattle.hear.specs.declared.Outcome.the-variants.{Reset}
 use Rattle.sign.specs.Join.{staysOf}
@@ -33,7 +42,7 @@ use Rattle.repeater.specs.Repeat.{withinOf, repeatOf}
 use Rattle.service.specs.Good.{Good}
 use Rattle.service.proofs.Copies.{copy-repeats, busy-waits}
 use Rattle.service.proofs.Joins.{unread, queried, cleared, begins, other-total, goes-in, again, differs}
-use Rattle.promises.specs.Unit.{Calls, leftBy, ours, heardIn, steppedIn, clearedIn}
+use Rattle.promises.specs.Unit.{leftBy, ours, heardIn, steppedIn, clearedIn, valueAt}
 use Rattle.promises.specs.Wire.{Lays}
 use Rattle.promises.specs.Record.{Heeds, Answers, Joins, Steps, Clears, Obeys, stays}
 
@@ -115,6 +124,32 @@ ours-outside body place len standing far = go (eqb place 0)
     go true = refl
     go false = search (tests, far)
 
+-- the text of a performed command lies within the body that it was read from
+said-within : (b : List ℕ) (p : ℕ) (σ : Settings) (x : Tok) → get b p ≡ x
+    → valueAt 2 (answerTold (sayOf (saidAt x σ))) + valueAt 3 (answerTold (sayOf (saidAt x σ))) ≤ length b
+unfolding performedOf
+said-within b p σ (right (act a)) e = get-act b p a e .within
+said-within b p σ (right (rep n z)) e = omega arith
+said-within b p σ (right close) e = omega arith
+said-within b p σ (right forever) e = omega arith
+said-within b p σ (right repeats) e = omega arith
+said-within b p σ (bad n q) e = omega arith
+
+ours-within : (s : Sign) → Good s → valueAt 2 (ours .step s .told) + valueAt 3 (ours .step s .told) ≤ length (runningBody s)
+ours-within s good = subst (λ (t : Told). valueAt 2 t + valueAt 3 t ≤ length (runningBody s)) (sym (ours-steps s good .told)) (go (eqb (s .run .len) 0) refl)
+  where
+    run : runSound (s .room) (s .run) ≡ true
+    run = sound-parts s (good .sound) .run
+
+    within : RunStepped → Type 0
+    within x = valueAt 2 (answerTold (x .answer)) + valueAt 3 (answerTold (x .answer)) ≤ length (runningBody s)
+
+    go : (t : Bool) → eqb (s .run .len) 0 ≡ t → within (runStep (s .room) (s .run))
+    go true e = subst within (sym (step-ready (s .room) (s .run) run (eqb-true (s .run .len) 0 e))) (omega arith)
+    go false e =
+        subst within (sym (step-busy (s .room) (s .run) run (eqb-false (s .run .len) 0 e)))
+        (said-within (runningBody s) (s .run .place) (s .run .settings) (get (runningBody s) (s .run .place)) refl)
+
 pub ours-obeys : Obeys ours
 ours-obeys =
     record {
@@ -128,4 +163,5 @@ ours-obeys =
       stretch = ours-stretch;
       standing = ours-standing;
       outside = ours-outside;
+      within = ours-within;
     }

@@ -14,7 +14,7 @@ use Rattle.reply.specs.declared.Status.the-variants.{Heard, Refused as Unheard}
 use Rattle.judge.specs.Verdict.{toldOf as verdictTold}
 use Rattle.judge.specs.declared.Verdict.{Verdict}
 use Rattle.judge.specs.declared.Verdict.the-variants.{Finite, Endless, Refused as NoProgram}
-use Rattle.promises.specs.Dispatch.{valueAt}
+use Rattle.promises.specs.Unit.{valueAt}
 
 -- what a packet was read as
 pub query-told : (x : Reading) → readTold x ≡ readTold Query → x ≡ Query

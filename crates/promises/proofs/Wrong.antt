@@ -39,8 +39,7 @@ use Rattle.sign.specs.declared.Sign.{Sign}
 use Rattle.repeater.specs.Repeat.{repeatOf}
 use Rattle.service.specs.Good.{Roomy}
 use Rattle.promises.specs.Bench.{hi, w5}
-use Rattle.promises.specs.Unit.{Wrote, ours}
-use Rattle.promises.specs.Dispatch.{valueAt}
+use Rattle.promises.specs.Unit.{Wrote, ours, valueAt}
 use Rattle.promises.specs.Keeps.{Keeps}
 use Rattle.promises.specs.Wrong.{refusing, eager, noisy, rumour, hearsay, idle, scribbling, trusting, madeUp, inventing, lenient, atOnce, fixed, startingOver, shaken, forgetful, agreeable, deaf, orderly, surly, jumpy, frozen, sulking, drowsy, rosy, mute, parrot, encore, counting}
 use Rattle.promises.proofs.Pins.{no-other-unit}

@@ -4,7 +4,7 @@
 use Prim.Native.Nat.{ℕ, zero, suc, _+_, _≤_, _<_}
 use mathlib.Core.List.{List, [], _∷_}
 use mathlib.Core.Path.{_≡_}
-use lib.ListN.{getD, replicate}
+use lib.ListN.{replicate}
 use Rattle.basis.specs.Told.{Told}
 use Rattle.packet.specs.Wire.{totalOf}
 use Rattle.judge.specs.Verdict.{toldOf as verdictTold}
@@ -14,15 +14,12 @@ use Rattle.hear.specs.declared.Outcome.the-variants.{Repeat}
 use Rattle.service.specs.Delivery.{Awaits}
 use Rattle.service.specs.Driver.{Event, step, stepsIn, Quiet}
 use Rattle.service.specs.Good.{Good}
-use Rattle.promises.specs.Unit.{Calls}
+use Rattle.promises.specs.Unit.{Calls, valueAt}
 use Rattle.promises.specs.Record.{stays}
 use Rattle.promises.specs.Delivery.{packetIn, behind}
 use Rattle.promises.specs.Line.{after, said, thenStep}
 
--- the value at a position of an answer, and its sum over answers
-abbrev pub valueAt : ℕ → Told → ℕ
-valueAt i t = getD (t .values) i 0
-
+-- the sum over answers of the value at a position
 abbrev pub sumAt : ℕ → List Told → ℕ
 sumAt i [] = 0
 sumAt i (t ∷ ts) = valueAt i t + sumAt i ts

@@ -22,7 +22,7 @@ use Rattle.sign.specs.Step.{steppedOf}
 use Rattle.sign.specs.Tell.{saysOf, runningBody}
 use Rattle.sign.specs.declared.Received.{Received}
 use Rattle.service.specs.Good.{Good}
-use Rattle.promises.specs.Unit.{Heard, Next, Calls, heardIn, steppedIn}
+use Rattle.promises.specs.Unit.{Heard, Next, Calls, heardIn, steppedIn, valueAt}
 use Rattle.promises.specs.Wire.{Lays}
 
 -- nothing changes, and no body comes with the answer
@@ -94,3 +94,5 @@ pub record Obeys {R : Type 0} (u : Calls R) : Type 0 where
       → u .repeat body place len standing ≡ take len (drop place body)
   pub standing : (body : List ℕ) (len : ℕ) (standing : List ℕ) → u .repeat body 0 len standing ≡ standing
   pub outside : (body : List ℕ) (place len : ℕ) (standing : List ℕ) → length body < place + len → u .repeat body place len standing ≡ standing
+  -- the text that a step tells lies within the running body: of a copy made before the step, the repeater shows that very stretch
+  pub within : (r : R) → Good (u .holds r) → valueAt 2 (u .step r .told) + valueAt 3 (u .step r .told) ≤ length (runningBody (u .holds r))

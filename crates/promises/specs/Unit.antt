@@ -4,7 +4,7 @@
 use Prim.Native.Nat.{ℕ}
 use mathlib.Core.Bool.{Bool}
 use mathlib.Core.List.{List, [], _∷_}
-use lib.ListN.{take}
+use lib.ListN.{getD, take}
 use Rattle.basis.specs.Rows.{Row, firstOf}
 use Rattle.basis.specs.Told.{Told}
 use Rattle.packet.specs.Wire.{queryOf, resetOf, packetAt, transmissionOf, replyOf}
@@ -65,6 +65,10 @@ pub record Calls (R : Type 0) : Type 0 where
   pub copy : R → (out : List ℕ) → Wrote
   -- the driver's repeater
   pub repeat : (body : List ℕ) (place len : ℕ) (standing : List ℕ) → List ℕ
+
+-- the value at a position of an answer
+abbrev pub valueAt : ℕ → Told → ℕ
+valueAt i t = getD (t .values) i 0
 
 -- what a writer leaves that refuses by these rows and writes these bytes
 abbrev pub leftBy : List Row → (bytes out : List ℕ) → Wrote

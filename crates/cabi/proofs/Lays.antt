@@ -14,7 +14,7 @@ use Rattle.basis.specs.Told.{Told}
 use Rattle.basis.proofs.Choices.{when-true, when-false}
 use Rattle.packet.specs.Write.{Writes, answerOf, bufferOf}
 use Rattle.packet.specs.declared.write.Written.{Written}
-use Rattle.machine.specs.Step.{toldOf as stepTold}
+use Rattle.machine.specs.Step.{toldOf as answerTold}
 use Rattle.machine.specs.declared.Answer.{Answer}
 use Rattle.machine.specs.declared.Answer.the-variants.{Did, Idle, Refused as NoStep}
 use Rattle.hear.specs.Hear.{toldOf as outcomeTold}
@@ -170,8 +170,8 @@ pub ill-receives : (image : List ℕ) (mid : ℕ) (b : List ℕ) → soundOf (re
 unfolding staysOf
 ill-receives image mid b e = ap (λ (x : Received). outcomeTold (x .outcome) .number) (unsound-receives (recordOf image) mid b e)
 
-pub ill-steps : (image : List ℕ) → soundOf (recordOf image) ≡ false → stepTold (stepOf (recordOf image) .answer) .number ≡ 16
-ill-steps image e = ap (λ (x : Stepped). stepTold (x .answer) .number) (unsound-steps (recordOf image) e)
+pub ill-steps : (image : List ℕ) → soundOf (recordOf image) ≡ false → answerTold (stepOf (recordOf image) .answer) .number ≡ 16
+ill-steps image e = ap (λ (x : Stepped). answerTold (x .answer) .number) (unsound-steps (recordOf image) e)
 
 pub ill-resets : (image : List ℕ) → soundOf (recordOf image) ≡ false → outcomeTold (clearedOf (recordOf image) .outcome) .number ≡ 16
 unfolding clearedOf
@@ -189,7 +189,7 @@ quiet-receive Stored body len h = absurd (h refl)
 quiet-receive (Released v) body len h = absurd (h refl)
 quiet-receive (Refused n) body len h = refl
 
-pub quiet-step : (x : Answer) → (stepTold x .number ≡ 0 → ⊥) → wordsOf (stepTold x .values) ≡ []
+pub quiet-step : (x : Answer) → (answerTold x .number ≡ 0 → ⊥) → wordsOf (answerTold x .values) ≡ []
 unfolding wordsOf
 quiet-step (Did x) h = absurd (h refl)
 quiet-step Idle h = absurd (h refl)

@@ -11,10 +11,10 @@ use Rattle.basis.specs.Choice.{when}
 use Rattle.basis.specs.Rows.{Row, _if_, firstOf}
 use Rattle.packet.specs.Write.{shortBy, answerOf, bufferOf}
 use Rattle.reader.specs.Read.{readOf, toldOf as readTold}
-use Rattle.reply.specs.Reply.{heardOf, toldOf as heardTold}
-use Rattle.reckon.specs.Forecast.{forecastOf, toldOf as foretoldTold}
+use Rattle.reply.specs.Reply.{heardOf, toldOf as statusTold}
+use Rattle.reckon.specs.Forecast.{forecastOf, toldOf as forecastTold}
 use Rattle.hear.specs.Hear.{toldOf as outcomeTold}
-use Rattle.machine.specs.Step.{toldOf as stepTold}
+use Rattle.machine.specs.Step.{toldOf as answerTold}
 use Rattle.sign.specs.Sound.{soundOf}
 use Rattle.sign.specs.Reset.{powerOn, clearedOf}
 use Rattle.sign.specs.Receive.{receiveOf}
@@ -38,17 +38,17 @@ abbrev pub readNo : ℕ → (bytes answer : List ℕ) → ℕ
 readNo mid bytes answer = firstOr (answerRow 20 answer ∷ []) (readTold (readOf mid bytes) .number)
 
 abbrev pub replyAnswer : ℕ → (bytes answer : List ℕ) → List ℕ
-replyAnswer mid bytes answer = toldIn 12 (wordsOf (heardTold (heardOf mid bytes) .values)) answer
+replyAnswer mid bytes answer = toldIn 12 (wordsOf (statusTold (heardOf mid bytes) .values)) answer
 
 abbrev pub replyNo : ℕ → (bytes answer : List ℕ) → ℕ
-replyNo mid bytes answer = firstOr (answerRow 12 answer ∷ []) (heardTold (heardOf mid bytes) .number)
+replyNo mid bytes answer = firstOr (answerRow 12 answer ∷ []) (statusTold (heardOf mid bytes) .number)
 
 -- forecasting a body
 abbrev pub forecastResult : (body : List ℕ) → (pace each : ℕ) → (answer : List ℕ) → ℕ
 forecastResult body pace each answer = firstOr (answerRow 24 answer ∷ []) (foretoldResult (forecastOf body pace each))
 
 abbrev pub forecastAnswer : (body : List ℕ) → (pace each : ℕ) → (answer : List ℕ) → List ℕ
-forecastAnswer body pace each answer = toldIn 24 (wordsOf (foretoldTold (forecastOf body pace each) .values)) answer
+forecastAnswer body pace each answer = toldIn 24 (wordsOf (forecastTold (forecastOf body pace each) .values)) answer
 
 -- 251: an image of another size
 abbrev pub imageRow : List ℕ → Row
@@ -90,7 +90,7 @@ resetImage image = keptOf (resetNo image) image (imageOf (clearedOf (recordOf im
 
 -- a step
 abbrev pub stepNo : (image answer : List ℕ) → ℕ
-stepNo image answer = firstOr (guarded image (answerRow 28 answer ∷ [])) (stepTold (stepOf (recordOf image) .answer) .number)
+stepNo image answer = firstOr (guarded image (answerRow 28 answer ∷ [])) (answerTold (stepOf (recordOf image) .answer) .number)
 
 -- the image after it
 abbrev pub stepImage : (image answer : List ℕ) → List ℕ
@@ -98,7 +98,7 @@ stepImage image answer = keptOf (stepNo image answer) image (imageOf (stepOf (re
 
 -- and what is told of it
 abbrev pub stepAnswer : (image answer : List ℕ) → List ℕ
-stepAnswer image answer = keptOf (stepNo image answer) answer (laid (wordsOf (stepTold (stepOf (recordOf image) .answer) .values)) answer)
+stepAnswer image answer = keptOf (stepNo image answer) answer (laid (wordsOf (answerTold (stepOf (recordOf image) .answer) .values)) answer)
 
 -- the reply to a query, and a copy of the running body: the guard, then 34
 abbrev pub tellRows : (bytes : Sign → List ℕ) → (image out : List ℕ) → List Row

@@ -1,7 +1,7 @@
 -- Ours delivers: the packets that walking finds in the buffer are the body's, and they are joined.
 use Prim.Native.Nat.{ℕ, zero, suc, _+_, _-_, _*_, _≤_, _<_}
 use mathlib.Core.Bool.{Bool, true, false}
-use mathlib.Core.List.{List, [], _∷_, _++_}
+use mathlib.Core.List.{List, _++_}
 use mathlib.Core.Path.{_≡_, refl, sym, ap, _∙_, subst}
 use native.Mathlib.Omega.{arith}
 use lib.Dec.{eqb, ltb}
@@ -12,7 +12,7 @@ use Rattle.basis.specs.Bytes.{laid}
 use Rattle.basis.specs.Choice.{when, _or_}
 use Rattle.basis.specs.Rows.{firstOf}
 use Rattle.packet.specs.Wire.{fifthOf, totalOf, partOf, packetAt, transmissionOf}
-use Rattle.packet.specs.Write.{shortBy, badBody, transmissionRows, answerOf, bufferOf, toldOf as writtenTold}
+use Rattle.packet.specs.Write.{transmissionRows, answerOf, bufferOf, toldOf as writtenTold}
 use Rattle.packet.proofs.Parts.{transmission-length}
 use Rattle.packet.proofs.Stands.{at-length, packet-stands, count-stands}
 use Rattle.hear.specs.Hear.{toldOf as outcomeTold}

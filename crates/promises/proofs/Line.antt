@@ -1,11 +1,11 @@
 -- Ours keeps the promise of the line.
 use Prim.Native.Nat.{ℕ, _^_, _<_}
-use mathlib.Core.Bool.{Bool, true, false}
+use mathlib.Core.Bool.{true, false}
 use mathlib.Core.List.{List, [], _∷_}
 use mathlib.Core.Path.{_≡_, refl, sym, ap, _∙_, subst}
 use native.Mathlib.Omega.{arith}
 use lib.ListN.{length, take}
-use Rattle.basis.specs.Told.{Told, noAt}
+use Rattle.basis.specs.Told.{Told}
 use Rattle.basis.proofs.Choices.{when-true, when-false}
 use Rattle.perform.specs.Settings.{soundOf}
 use Rattle.perform.specs.declared.settings.Settings.{Settings}
@@ -33,10 +33,9 @@ use Rattle.sign.specs.Receive.{receiveOf}
 use Rattle.sign.specs.Step.{stepOf}
 use Rattle.sign.specs.declared.Sign.{Sign}
 use Rattle.sign.proofs.Sounds.{sound-parts}
-use Rattle.service.specs.Driver.{Event, step, bytes, afterEvents, saidEvents, stepsIn, Quiet}
-use Rattle.service.specs.Good.{Good}
+use Rattle.service.specs.Driver.{Event, step, bytes, afterEvents, saidEvents, stepsIn}
 use Rattle.service.proofs.Quiets.{steps-then, quiet-line, quiet-line-then, quiet-endless}
-use Rattle.promises.specs.Unit.{Calls, ours}
+use Rattle.promises.specs.Unit.{ours}
 use Rattle.promises.specs.Line.{after, said, toldOfAll, thenStep, Started, Runs, Goes, LineRuns}
 
 -- events of ours, and their answers

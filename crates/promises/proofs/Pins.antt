@@ -1,15 +1,15 @@
 -- No wrong unit keeps the promises: one that keeps them can't be told from ours by any call.
-use Prim.Native.Nat.{ℕ, zero, suc, _+_, _-_, _≤_, _<_}
+use Prim.Native.Nat.{ℕ, zero, suc, _+_, _-_}
 use mathlib.Core.Bool.{Bool, true, false, not}
-use mathlib.Core.List.{List, [], _∷_}
-use mathlib.Core.Path.{_≡_, refl, sym, ap, _∙_, subst}
+use mathlib.Core.List.{List, []}
+use mathlib.Core.Path.{_≡_, refl, sym, ap, _∙_}
 use native.Mathlib.Omega.{arith}
 use lib.Dec.{eqb, leb}
 use lib.ListN.{length, getD, take, drop, length-drop}
 use lib.Seq.{length-take-le}
 use borrow.Author.Tests.{eqb-true, eqb-false, leb-false, leb-true}
 use Rattle.basis.specs.Bytes.{Bytes}
-use Rattle.basis.specs.Choice.{when, _and_, within}
+use Rattle.basis.specs.Choice.{_and_, within}
 use Rattle.basis.specs.Rows.{Row}
 use Rattle.basis.proofs.Choices.{and-parts, within-parts}
 use Rattle.basis.specs.Told.{Told, no}
@@ -40,11 +40,12 @@ use Rattle.sign.specs.Sound.{soundOf, collectedOf}
 use Rattle.sign.specs.declared.Sign.{Sign}
 use Rattle.sign.specs.declared.Received.{Received}
 use Rattle.service.specs.Good.{Good, Roomy}
-use Rattle.promises.specs.Unit.{Wrote, Heard, Next, Calls, ours, leftBy, heardIn}
+use Rattle.promises.specs.Unit.{Wrote, Heard, Calls, ours, leftBy}
 use Rattle.promises.specs.Wire.{Lays}
 use Rattle.promises.specs.Record.{Heeds, Joins, stays}
 use Rattle.promises.specs.Keeps.{Keeps, SameHeard, SameNext, Same}
-use Rattle.promises.proofs.Wire.{heard-last, unheard-35, ours-holds}
+use Rattle.promises.proofs.Wire.{heard-last}
+use Rattle.promises.proofs.Yes.{unheard-35}
 use Rattle.promises.proofs.Safe.{ours-never-trips}
 use Rattle.promises.proofs.Record.{ours-obeys}
 use Rattle.promises.proofs.Line.{ours-runs}

@@ -26,11 +26,10 @@ use Rattle.machine.specs.Step.{sayOf, stepOf as runStep, toldOf as answerTold}
 use Rattle.machine.specs.declared.Stepped.{Stepped as RunStepped}
 use Rattle.machine.proofs.Keeps.{step-ready, step-busy}
 use Rattle.hear.specs.declared.Outcome.{Outcome}
-use Rattle.hear.specs.declared.Outcome.the-variants.{Reset}
 use Rattle.sign.specs.Join.{staysOf}
 use Rattle.sign.specs.Reset.{clearedOf}
 use Rattle.sign.specs.Sound.{soundOf}
-use Rattle.sign.specs.Step.{steppedOf, stepOf}
+use Rattle.sign.specs.Step.{steppedOf}
 use Rattle.sign.specs.Tell.{saysOf, runningBody, toldRows}
 use Rattle.sign.specs.declared.Sign.{Sign}
 use Rattle.sign.specs.declared.Received.{Received}
@@ -38,7 +37,7 @@ use Rattle.sign.specs.declared.Stepped.{Stepped}
 use Rattle.sign.specs.declared.Cleared.{Cleared}
 use Rattle.sign.proofs.Sounds.{sound-parts}
 use Rattle.sign.proofs.Stepping.{sound-steps, same-run}
-use Rattle.repeater.specs.Repeat.{withinOf, repeatOf}
+use Rattle.repeater.specs.Repeat.{repeatOf}
 use Rattle.service.specs.Good.{Good}
 use Rattle.service.proofs.Copies.{copy-repeats, busy-waits}
 use Rattle.service.proofs.Joins.{unread, queried, cleared, begins, other-total, goes-in, again, differs}

@@ -1,10 +1,8 @@
 -- Ours never trips.
 use Prim.Native.Nat.{ℕ, zero, suc}
-use mathlib.Core.Bool.{Bool, true, false, not}
+use mathlib.Core.Bool.{Bool, false, not}
 use mathlib.Core.List.{List, [], _∷_}
-use mathlib.Core.Path.{_≡_, refl, sym, ap, _∙_}
-use native.Mathlib.Omega.{arith}
-use lib.ListN.{take}
+use mathlib.Core.Path.{_≡_, refl, ap}
 use Rattle.basis.specs.Choice.{when}
 use Rattle.basis.specs.Rows.{Row, firstOf}
 use Rattle.basis.specs.Told.{no}

@@ -23,13 +23,13 @@ use Rattle.reader.specs.declared.read.Reading.{Reading}
 use Rattle.reader.proofs.ReadBack.{query-reads, reset-reads, packet-reads, body-reads}
 use Rattle.reader.proofs.Unique.{normal-only, same-fields, query-only, reset-only}
 use Rattle.reader.proofs.Refusals.{refused-lowest, lowest-refused, no-packet}
-use Rattle.reply.specs.Reply.{isLast, isReply, isTold, heardOf, replyRows, toldOf as statusTold}
+use Rattle.reply.specs.Reply.{isLast, isReply, heardOf, replyRows, toldOf as statusTold}
 use Rattle.reply.specs.declared.Status.{Status}
 use Rattle.reply.specs.declared.Status.the-variants.{Heard, Refused as Unheard}
 use Rattle.reply.proofs.Replies.{reply-reads, reply-only, same-reply}
 use Rattle.promises.specs.Unit.{leftBy, ours}
 use Rattle.promises.specs.Wire.{ReadsBack, HearsBack, Lays, Reads, Hears, Writes, WireHolds}
-use Rattle.promises.proofs.Yes.{read-no}
+use Rattle.promises.proofs.Yes.{read-no, unheard-35}
 use Rattle.promises.proofs.Tellings.{query-told, reset-told, normal-told, refused-told, heard-told}
 
 module _ (mid id : ℕ) (body : List ℕ) (position : ℕ) (out : List ℕ) (normal : id ≤ 0x3F) (some : 1 ≤ length body) (most : length body ≤ 84)
@@ -108,7 +108,7 @@ ours-reads =
       refused = λ mid b k l. ap readTold (lowest-refused mid b k l);
     }
 
--- what was heard has a last ID that a sign may have, and what was not is 35
+-- what was heard has a last ID that a sign may have
 told-last : (t v w : Bool) (l last : ℕ) (b c busy sink : Bool) → isLast l ≡ v
     → when t (when (v and w) (Heard l b c) (Unheard 35)) (Unheard 35) ≡ Heard last busy sink
     → isLast last ≡ true
@@ -121,16 +121,6 @@ pub heard-last : (mid : ℕ) (b : List ℕ) (last : ℕ) (busy sink : Bool) → 
 unfolding heardOf
 heard-last mid b last busy sink e =
     told-last (isReply mid b) (isLast (getD b 3 0)) _ (getD b 3 0) last (eqb (getD b 4 0) 0x42) (eqb (getD b 5 0) 0x53) busy sink refl e
-
-told-35 : (t u : Bool) (l n : ℕ) (b c : Bool) → when t (when u (Heard l b c) (Unheard 35)) (Unheard 35) ≡ Unheard n → 35 ≡ n
-told-35 true true l n b c e = let z : _≡_ {A = ℕ} 0 1 = cc in absurd (omega arith)
-told-35 true false l n b c e = cc
-told-35 false u l n b c e = cc
-
-pub unheard-35 : (mid : ℕ) (b : List ℕ) (n : ℕ) → heardOf mid b ≡ Unheard n → 35 ≡ n
-unfolding heardOf
-unheard-35 mid b n e =
-    told-35 (isReply mid b) (isTold (getD b 3 0) (getD b 4 0) (getD b 5 0)) (getD b 3 0) n (eqb (getD b 4 0) 0x42) (eqb (getD b 5 0) 0x53) e
 
 pub ours-hears : Hears ours
 ours-hears =

@@ -9,7 +9,7 @@ use borrow.Author.Tests.{eqb-false}
 use lib.ListN.{length, getD, take, drop}
 use Rattle.basis.specs.Choice.{when, within, _and_, _or_}
 use Rattle.basis.specs.Rows.{firstOf}
-use Rattle.reply.specs.Reply.{heardOf, isLast, isReply, statusOf}
+use Rattle.reply.specs.Reply.{heardOf, isReply, isTold}
 use Rattle.reply.specs.declared.Status.the-variants.{Heard, Refused as Unheard}
 use Rattle.reader.specs.Read.{isNormal, rowsOf, refusedOr, named, readOf}
 use Rattle.reader.specs.declared.read.Reading.{Reading}
@@ -76,21 +76,19 @@ read-no mid b n e = go (firstOf (rowsOf mid b)) e
     go zero w = absurd (named-yes (getD b 3 0) (getD b 4 0) (length b) n w)
     go (suc k) w = let z : suc k ≡ n = cc in omega arith
 
-pub heard-no : (mid : ℕ) (b : List ℕ) (n : ℕ) → heardOf mid b ≡ Unheard n → 0 < n
-unfolding heardOf
-heard-no mid b n e = go (isReply mid b) e
-  where
-    told : (t : Bool) (last : ℕ) (busy sink : Bool) → when t (Heard last busy sink) (Unheard 35) ≡ Unheard n → 0 < n
-    told true last busy sink w = let z : _≡_ {A = ℕ} 0 1 = cc in absurd (omega arith)
-    told false last busy sink w = let z : 35 ≡ n = cc in omega arith
+-- a reply is refused with 35 alone
+told-35 : (t u : Bool) (l n : ℕ) (b c : Bool) → when t (when u (Heard l b c) (Unheard 35)) (Unheard 35) ≡ Unheard n → 35 ≡ n
+told-35 true true l n b c e = let z : _≡_ {A = ℕ} 0 1 = cc in absurd (omega arith)
+told-35 true false l n b c e = cc
+told-35 false u l n b c e = cc
 
-    go : (t : Bool) → when t (statusOf (getD b 3 0) (getD b 4 0) (getD b 5 0)) (Unheard 35) ≡ Unheard n → 0 < n
-    go true w =
-        let last = getD b 3 0 in
-        let state = getD b 4 0 in
-        let aux = getD b 5 0 in
-        told (isLast last and (eqb state 0x42 or eqb state 0x52) and (eqb aux 0x53 or eqb aux 0x46)) last (eqb state 0x42) (eqb aux 0x53) w
-    go false w = let z : 35 ≡ n = cc in omega arith
+pub unheard-35 : (mid : ℕ) (b : List ℕ) (n : ℕ) → heardOf mid b ≡ Unheard n → 35 ≡ n
+unfolding heardOf
+unheard-35 mid b n e =
+    told-35 (isReply mid b) (isTold (getD b 3 0) (getD b 4 0) (getD b 5 0)) (getD b 3 0) n (eqb (getD b 4 0) 0x42) (eqb (getD b 5 0) 0x53) e
+
+pub heard-no : (mid : ℕ) (b : List ℕ) (n : ℕ) → heardOf mid b ≡ Unheard n → 0 < n
+heard-no mid b n e = let z = unheard-35 mid b n e in omega arith
 
 above : (k : ℕ) → (k ≡ 0 → ⊥) → 0 < k
 above zero h = absurd (h refl)

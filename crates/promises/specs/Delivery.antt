@@ -14,7 +14,6 @@ use Rattle.collect.specs.Slots.{slotsIn, noneOf}
 use Rattle.machine.specs.Step.{startedOf}
 use Rattle.hear.specs.Hear.{toldOf as outcomeTold}
 use Rattle.hear.specs.declared.Outcome.the-variants.{Repeat, Stored, Released}
-use Rattle.sign.specs.declared.Sign.{Sign}
 use Rattle.service.specs.Delivery.{Awaits}
 use Rattle.service.specs.Good.{Good}
 use Rattle.promises.specs.Unit.{Heard, Calls}

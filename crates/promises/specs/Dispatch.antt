@@ -1,7 +1,7 @@
 -- From dispatch to Ready: demands 2 and 3 and the driver's wish (a line that has started runs to its end, once, and no
 -- late copy starts it again), by J4, J10, J11, S11, S22, S24, S26 and S32. The forecast, its sums and the Repeats are
 -- the unit's own answers; Busy and Ready are those of the record, which the reply tells (Record: `replies`).
-use Prim.Native.Nat.{ℕ, zero, suc, _+_, _≤_, _<_}
+use Prim.Native.Nat.{ℕ, suc, _+_, _≤_, _<_}
 use mathlib.Core.List.{List, [], _∷_}
 use mathlib.Core.Path.{_≡_}
 use lib.ListN.{replicate}

@@ -33,7 +33,7 @@ pub record SameHeard {R : Type 0} (u : Calls R) (x : Heard R) (y : Heard Sign) :
   pub body : x .body ≡ y .body
 
 -- a unit that no caller can tell from ours: on bytes, and on records whose rooms have their sizes, sound or not. Not seen here are the bytes
--- behind a released body in the room that it comes in, and which memory the repeater hands back; the contracts of our calls say both.
+-- after a released body in the room that it comes in, and which memory the repeater hands back; the contracts of our calls say both.
 pub record Same {R : Type 0} (u : Calls R) : Type 0 where
   pub read : (mid : ℕ) (b : List ℕ) → Bytes b → u .read mid b ≡ ours .read mid b
   pub hear : (mid : ℕ) (b : List ℕ) → Bytes b → u .hear mid b ≡ ours .hear mid b

@@ -22,7 +22,7 @@ use Rattle.sign.specs.Step.{steppedOf}
 use Rattle.sign.specs.Tell.{saysOf, runningBody}
 use Rattle.sign.specs.declared.Received.{Received}
 use Rattle.service.specs.Good.{Good}
-use Rattle.promises.specs.Unit.{Heard, Next, Calls, heardIn, steppedIn, valueAt}
+use Rattle.promises.specs.Unit.{Heard, Calls, heardIn, valueAt}
 use Rattle.promises.specs.Wire.{Lays}
 
 -- nothing changes, and no body comes with the answer

@@ -52,7 +52,7 @@ use Rattle.sign.proofs.Sounds.{Parts, sound-parts, parts-sound, ready-collects,
 use Rattle.sign.proofs.Stepping.{sound-steps}
 use Rattle.hear.proofs.Packets.{normal-read}
 use Rattle.hear.proofs.Places.{begun-open, stored-slots}
-use Rattle.service.specs.Good.{Roomy, Good}
+use Rattle.service.specs.Good.{Good}
 use Rattle.sign.proofs.Joining.{goes-open, sound-receives}
 
 fresh-good : (dim bright : ℕ) → settingsSound (startSettings dim bright) ≡ true → Good (freshOf dim bright)

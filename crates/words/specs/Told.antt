@@ -9,7 +9,7 @@ use Rattle.basis.specs.Choice.{when}
 use Rattle.basis.specs.Rows.{Row, _if_}
 use Rattle.judge.specs.Verdict.{toldOf as verdictTold}
 use Rattle.judge.specs.declared.Verdict.{Verdict}
-use Rattle.reckon.specs.Forecast.{toldOf as foretoldTold}
+use Rattle.reckon.specs.Forecast.{toldOf as forecastTold}
 use Rattle.reckon.specs.declared.reckon.Foretold.{Foretold}
 use Rattle.words.specs.Words.{resultOf}
 
@@ -32,4 +32,4 @@ judgedOf v = let t = verdictTold v in resultOf (t .number) (getD (t .values) 0 (
 
 -- forecasting: the number for no, and its place
 abbrev pub foretoldResult : Foretold → ℕ
-foretoldResult f = resultOf (foretoldTold f .number) (foretoldTold f .place)
+foretoldResult f = resultOf (forecastTold f .number) (forecastTold f .place)

@@ -5,7 +5,7 @@ use reply::Status;
 ghost use mathlib.Core.Path.{_≡_};
 ghost use mathlib.Core.List.{[], _∷_};
 ghost use Rattle.reader.specs.Read.{toldOf};
-ghost use Rattle.reply.specs.Reply.{toldOf as heardTold};
+ghost use Rattle.reply.specs.Reply.{toldOf as statusTold};
 ghost use Rattle.words.specs.Words.{wordsOf};
 ghost use Rattle.words.specs.Told.{answerRow, firstOr, toldIn};
 
@@ -44,8 +44,8 @@ pub fn tell_reading(reading: Reading, answer: &mut [u8]) -> u32
 
 // What a reply tells: three words.
 pub fn tell_status(status: Status, answer: &mut [u8]) -> u32
-    ensures result { λ r. ⌜ r ≡ firstOr (answerRow 12 (now (answer .entry)) ∷ []) (heardTold status .number) ⌝ }
-    ensures told { λ _. ⌜ now (answer .exit) ≡ toldIn 12 (wordsOf (heardTold status .values)) (now (answer .entry)) ⌝ }
+    ensures result { λ r. ⌜ r ≡ firstOr (answerRow 12 (now (answer .entry)) ∷ []) (statusTold status .number) ⌝ }
+    ensures told { λ _. ⌜ now (answer .exit) ≡ toldIn 12 (wordsOf (statusTold status .values)) (now (answer .entry)) ⌝ }
 {
     if answer.len() < 12 {
         return 252;

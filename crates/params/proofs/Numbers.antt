@@ -89,12 +89,13 @@ module _ (b : List ℕ) (from at v x : ℕ) (p : Passed b from at v) (ex : x ≡
     pub next-value : valueOf 0 (paramOf (drop from b)) ≡ valueOf (v * 10 + (x - 0x30)) (paramOf (drop (at + 1) b))
     next-value = p .value ∙ ap (valueOf v) step
 
-    pub next-passed : 0x30 ≤ x → x ≤ 0x39 → Passed b from (at + 1) (v * 10 + (x - 0x30))
-    next-passed low high =
+    -- with whatever sum is ten times the value and the digit
+    pub next-passed : (n : ℕ) → n ≡ v * 10 + (x - 0x30) → 0x30 ≤ x → x ≤ 0x39 → Passed b from (at + 1) n
+    next-passed n e low high =
         record {
           good =
               p .good ∙ ap digits step
               ∙ ap (λ (t : Bool). t and digits (paramOf (drop (at + 1) b))) (within-true 0x30 x 0x39 low high);
-          value = next-value;
+          value = next-value ∙ ap (λ (k : ℕ). valueOf k (paramOf (drop (at + 1) b))) (sym e);
           count = next-count;
         }

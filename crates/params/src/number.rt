@@ -1,4 +1,4 @@
-// The one reader of numbers: rules L2 and L8, and N23.
+// The one reader of numbers: rules L2 and L8, and N23. It reads by additions alone (P14).
 use crate::Parameter;
 use crate::bytes::CARET;
 use crate::bytes::byte_at;
@@ -35,7 +35,11 @@ pub fn read_number(body: &[u8], place: usize, from: usize, lo: u8, hi: u8, most:
         if most <= at - from {
             return Parameter::Wrong(23, place);
         }
-        value = value * 10 + (x - b'0') as usize;
+        let digit = (x - b'0') as usize;
+        let twice = value + value;
+        let fourfold = twice + twice;
+        let eightfold = fourfold + fourfold;
+        value = eightfold + twice + digit;
         if greatest < value {
             return Parameter::Wrong(23, place);
         }

@@ -1,4 +1,4 @@
--- `program::number::read_number` meets its contract. The invariant: the digits passed made the value, it is not over `hi`, and
+-- `params::number::read_number` meets its contract. The invariant: the digits passed made the value, it is not over `hi`, and
 -- they are not more than `most`. The measure is what is left of the body.
 use Prim.Native.Nat.{_+_, _*_, _-_, _≤_}
 use native.Mathlib.Omega.{arith}
@@ -81,14 +81,23 @@ returns-6 c =
     number-wrong (a .lo) (a .hi) (a .most) (a .place) (a .from) (paramOf (drop (a .from) (a .body .now)))
     (λ d one few low high. let k = next-count (a .body .now) (a .from) (l .at) (l .value) (o .byte-at .result) (l .inv .3) (o .byte-at .ensures) (c .before .before .before .if1 .left) in omega arith)
 
-mul-value : tie.Need-mul-value Inv-loop μ-loop
-mul-value c = search needs
+cast-digit : tie.Need-cast-digit Inv-loop μ-loop
+cast-digit c = search needs
 
-cast-value : tie.Need-cast-value Inv-loop μ-loop
-cast-value c = search needs
+add-twice : tie.Need-add-twice Inv-loop μ-loop
+add-twice c = search needs
+
+add-fourfold : tie.Need-add-fourfold Inv-loop μ-loop
+add-fourfold c = search needs
+
+add-eightfold : tie.Need-add-eightfold Inv-loop μ-loop
+add-eightfold c = search needs
 
 add-value : tie.Need-add-value Inv-loop μ-loop
 add-value c = search needs
+
+add-value-2 : tie.Need-add-value-2 Inv-loop μ-loop
+add-value-2 c = search needs
 
 returns-7 : tie.Need-returns-7 Inv-loop μ-loop
 returns-7 c =
@@ -123,7 +132,7 @@ loop-again c =
     let o = c .before .before .before .before .before in
     let l = o .before .loop in
     let a = o .before .before .before .args in
-    (omega arith, omega arith, omega arith, next-passed (a .body .now) (a .from) (l .at) (l .value) (o .byte-at .result) (l .inv .3) (o .byte-at .ensures) (c .before .before .before .before .if1 .left) (c .before .before .before .if4 .left) (c .before .before .if5 .left))
+    (omega arith, omega arith, omega arith, next-passed (a .body .now) (a .from) (l .at) (l .value) (o .byte-at .result) (l .inv .3) (o .byte-at .ensures) (c .before .before .before .before .if1 .left) _ (omega arith) (c .before .before .before .if4 .left) (c .before .before .if5 .left))
 
 pub read-number-spec : {M : Type 1} → statement M
 read-number-spec =
@@ -140,9 +149,12 @@ read-number-spec =
     returns-5
     sub-if6
     returns-6
-    mul-value
-    cast-value
+    cast-digit
+    add-twice
+    add-fourfold
+    add-eightfold
     add-value
+    add-value-2
     returns-7
     add-at
     loop-less

@@ -1,4 +1,5 @@
-// The one reader of numbers: rules L2 and L8, and N23. It reads by additions alone (P14).
+// The one reader of numbers: rules L2 and L8, and N23. It reads by additions alone, and adds in 32 bits, so that a chip
+// without a multiply needs no routine for it (P14).
 use crate::Parameter;
 use crate::bytes::CARET;
 use crate::bytes::byte_at;
@@ -35,11 +36,12 @@ pub fn read_number(body: &[u8], place: usize, from: usize, lo: u8, hi: u8, most:
         if most <= at - from {
             return Parameter::Wrong(23, place);
         }
-        let digit = (x - b'0') as usize;
-        let twice = value + value;
+        let digit = (x - b'0') as u32;
+        let once = value as u32;
+        let twice = once + once;
         let fourfold = twice + twice;
         let eightfold = fourfold + fourfold;
-        value = eightfold + twice + digit;
+        value = (eightfold + twice + digit) as usize;
         if greatest < value {
             return Parameter::Wrong(23, place);
         }

@@ -84,6 +84,9 @@ returns-6 c =
 cast-digit : tie.Need-cast-digit Inv-loop μ-loop
 cast-digit c = search needs
 
+cast-once : tie.Need-cast-once Inv-loop μ-loop
+cast-once c = search needs
+
 add-twice : tie.Need-add-twice Inv-loop μ-loop
 add-twice c = search needs
 
@@ -98,6 +101,9 @@ add-value c = search needs
 
 add-value-2 : tie.Need-add-value-2 Inv-loop μ-loop
 add-value-2 c = search needs
+
+cast-value : tie.Need-cast-value Inv-loop μ-loop
+cast-value c = search needs
 
 returns-7 : tie.Need-returns-7 Inv-loop μ-loop
 returns-7 c =
@@ -150,11 +156,13 @@ read-number-spec =
     sub-if6
     returns-6
     cast-digit
+    cast-once
     add-twice
     add-fourfold
     add-eightfold
     add-value
     add-value-2
+    cast-value
     returns-7
     add-at
     loop-less

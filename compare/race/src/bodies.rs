@@ -79,7 +79,7 @@ fn plain(random: &mut Random) -> Vec<u8> {
 }
 
 /// The letters, digits and bounds of each command with a number, that of the loop last.
-const NUMBERED: [(&[u8], usize, usize, usize); 8] = [
+pub const NUMBERED: [(&[u8], usize, usize, usize); 8] = [
     (b"P", 2, 1, 20),
     (b"P", 2, 1, 20),
     (b"=", 1, 1, 6),

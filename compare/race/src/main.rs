@@ -7,6 +7,7 @@ mod case;
 mod damage;
 mod ground;
 mod names;
+mod numbers;
 mod packets;
 mod racer;
 mod random;
@@ -40,10 +41,17 @@ fn main() -> ExitCode {
     let mut racer = Racer::new(seed, calls, arguments.next().is_some_and(|word| word == "trace"));
     let mut damage = Damage::default();
     let mut reached = Vec::new();
-    if sizes::buffers(&mut racer).and_then(|()| sizes::images(&mut racer)).is_some() {
+    if once(&mut racer).is_some() {
         while round(&mut racer, &mut damage, &mut reached).is_some() {}
     }
     finish(&racer, &damage, seed)
+}
+
+/// What is gone through from end to end, once in each race.
+fn once(racer: &mut Racer) -> Option<()> {
+    sizes::buffers(racer)?;
+    sizes::images(racer)?;
+    numbers::numbers(racer)
 }
 
 /// A round of each sort of call; none when the calls are used up.

@@ -28,8 +28,24 @@ fn value(after: &After) -> Option<u32> {
     yes(after).then_some(after.result >> 8)
 }
 
+/// The number of a command that a step performed, if it is an `XB`, which takes every number of a byte.
+fn brightness(after: &After) -> Option<u32> {
+    (yes(after) && after.word(0) == 15).then(|| after.word(1))
+}
+
+/// Each number of a byte.
+const BYTES: [u32; VALUES] = {
+    let mut bytes = [0; VALUES];
+    let mut byte = 0;
+    while byte < VALUES {
+        bytes[byte] = byte as u32;
+        byte += 1;
+    }
+    bytes
+};
+
 #[rustfmt::skip]
-const GROUPS: [Group; 12] = [
+const GROUPS: [Group; 13] = [
     Group { name: "yd_read_packet, what", function: Function::ReadPacket, read: first_word, expected: &[1, 2, 3] },
     Group { name: "yd_read_reply, Busy", function: Function::ReadReply,
         read: |after| yes(after).then(|| after.word(1)), expected: &[0, 1] },
@@ -47,6 +63,7 @@ const GROUPS: [Group; 12] = [
         expected: &[0, 21, 22, 23, 24, 25, 26, 27] },
     Group { name: "yd_step, kind", function: Function::Step, read: first_word,
         expected: &[0, 1, 2, 3, 4, 5, 6, 7, 8, 9, 10, 11, 12, 13, 14, 15, 16] },
+    Group { name: "yd_step, number of an XB", function: Function::Step, read: brightness, expected: &BYTES },
     Group { name: "yd_write_packet, packets in full or not", function: Function::WritePacket,
         read: |after| value(after).map(|length| u32::from(length == 21)), expected: &[0, 1] },
     Group { name: "yd_repeat, shows the stretch", function: Function::Repeat, read: value, expected: &[0, 1] },

@@ -70,6 +70,33 @@ fn numbers() {
 }
 
 #[test]
+fn numbers_have_their_decimal_value() {
+    let cases: [(&[u8], u8); 18] = [
+        (b"^W1", 1),
+        (b"^W9", 9),
+        (b"^W09", 9),
+        (b"^W10", 10),
+        (b"^W12", 12),
+        (b"^W21", 21),
+        (b"^W90", 90),
+        (b"^W99", 99),
+        (b"^P20", 20),
+        (b"^=6", 6),
+        (b"^Y17", 17),
+        (b"^XB000", 0),
+        (b"^XB020", 20),
+        (b"^XB102", 102),
+        (b"^XB199", 199),
+        (b"^XB210", 210),
+        (b"^XD255", 255),
+        (b"^L98^E", 98),
+    ];
+    for (body, number) in cases {
+        assert_eq!(commands(body)[0].number, number, "{}", body.escape_ascii());
+    }
+}
+
+#[test]
 fn texts() {
     check(&[
         (b"^S \x7D", (0, 0)),

@@ -1,0 +1,34 @@
+//! Numbers after the letters of a command, once in each race: each below 1,000, with every count of digits to four.
+//! Answers to 01, "The program", and to the number 23.
+
+use crate::bodies::NUMBERED;
+use crate::case::{Case, Function};
+use crate::racer::Racer;
+use reference::calls::{self, STEP_ANSWER_SIZE};
+use reference::image::{AT_LENGTH, AT_ROOM, IMAGE_SIZE};
+
+/// Each command that takes a number, judged, which tells whether the number is right, and performed, which tells its value.
+pub fn numbers(racer: &mut Racer) -> Option<()> {
+    for (letters, ..) in NUMBERED {
+        for digits in 1..=4 {
+            for value in 0..10_usize.pow(digits.min(3)) {
+                let number = format!("{value:0width$}", width = digits as usize);
+                let close: &[u8] = if letters == b"L" { b"^E" } else { b"" };
+                let body = [b"^", letters, number.as_bytes(), close].concat();
+                let answer = racer.random.bytes(STEP_ANSWER_SIZE);
+                racer.call(Case::new(Function::Step, &[]).image(&running(&body)).out(answer))?;
+                racer.call(Case::new(Function::Judge, &[]).bytes(body))?;
+            }
+        }
+    }
+    Some(())
+}
+
+/// The image of a sign just switched on, with this body at its first command.
+fn running(body: &[u8]) -> Vec<u8> {
+    let mut image = vec![0; IMAGE_SIZE];
+    calls::power_on(&mut image);
+    image[AT_ROOM..AT_ROOM + body.len()].copy_from_slice(body);
+    image[AT_LENGTH] = body.len() as u8;
+    image
+}

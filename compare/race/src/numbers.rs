@@ -7,9 +7,9 @@ use crate::racer::Racer;
 use reference::calls::{self, STEP_ANSWER_SIZE};
 use reference::image::{AT_LENGTH, AT_ROOM, IMAGE_SIZE};
 
-/// Each command that takes a number, judged, which tells whether the number is right, and performed, which tells its value.
+/// Each command that takes a number, stepped, which tells the value of a right one, and judged. The list has the pace twice.
 pub fn numbers(racer: &mut Racer) -> Option<()> {
-    for (letters, ..) in NUMBERED {
+    for &(letters, ..) in &NUMBERED[1..] {
         for digits in 1..=4 {
             for value in 0..10_usize.pow(digits.min(3)) {
                 let number = format!("{value:0width$}", width = digits as usize);

@@ -89,7 +89,7 @@ module _ (b : List ℕ) (from at v x : ℕ) (p : Passed b from at v) (ex : x ≡
     pub next-value : valueOf 0 (paramOf (drop from b)) ≡ valueOf (v * 10 + (x - 0x30)) (paramOf (drop (at + 1) b))
     next-value = p .value ∙ ap (valueOf v) step
 
-    -- the same for any n that is ten times the value and the digit, whichever sums made it
+    -- the same for any n that is ten times the value plus the digit, whichever sums made it
     pub next-passed : (n : ℕ) → n ≡ v * 10 + (x - 0x30) → 0x30 ≤ x → x ≤ 0x39 → Passed b from (at + 1) n
     next-passed n e low high =
         record {

@@ -1,4 +1,6 @@
+pub mod Entries
 pub mod Places
 pub mod Texts
+pub mod Pieces
 pub mod Numbers
 pub mod Faults

@@ -17,7 +17,7 @@ use Rattle.params.specs.Bytes.{caret, paramOf, firstOf}
 pub within-body : (b : List ℕ) (i : ℕ) → (getD b i caret ≡ caret → ⊥) → i < length b
 within-body b i h = dite (decLt i (length b)) (λ l. l) (λ l. absurd (h (List·getD-eq-default b caret (omega arith))))
 
-param-cons : (x : ℕ) (xs : List ℕ) → (x ≡ caret → ⊥) → paramOf (x ∷ xs) ≡ x ∷ paramOf xs
+pub param-cons : (x : ℕ) (xs : List ℕ) → (x ≡ caret → ⊥) → paramOf (x ∷ xs) ≡ x ∷ paramOf xs
 param-cons x xs h = ap (λ (t : Bool). when t [] (x ∷ paramOf xs)) (ne-eqb x caret h)
 
 -- the parameter that stands from a place on goes on by the byte there, and ends at a caret and behind the end

@@ -1,4 +1,4 @@
--- Laws of a text's bytes: the fault of one byte by its kind, and one byte more of a text.
+-- Laws of a text: its end, and one byte more of it.
 use Prim.Native.Nat.{ℕ, _+_}
 use mathlib.Core.Path.{_≡_, sym, ap, _∙_}
 use mathlib.Core.Bool.{Bool}
@@ -8,21 +8,9 @@ use lib.Dec.{eqb}
 use lib.ListN.{getD, drop}
 use Rattle.basis.specs.Choice.{when}
 use Rattle.params.specs.Bytes.{caret, paramOf, firstOf}
-use Rattle.params.specs.Text.{kindOf, isLetter, mayRun, wrongBy, wrongOf, textOf}
-use Rattle.params.specs.declared.ByteKind.{ByteKind}
-use Rattle.params.specs.declared.ByteKind.the-variants.{Tilde, Graphic}
+use Rattle.params.specs.Text.{wrongOf, textOf}
 use Rattle.params.specs.declared.Parameter.the-variants.{Right, Wrong}
 use Rattle.params.proofs.Places.{param-next, param-end, param-first}
-
-module _ (q p x n : ℕ) (k : ByteKind) (e : k ≡ kindOf x) where
-  pub wrong-known : (j : ByteKind) → k ≡ j → wrongBy j (mayRun q p) (isLetter n) ≡ wrongOf q p x n
-  wrong-known j t = ap (λ (i : ByteKind). wrongBy i (mayRun q p) (isLetter n)) (sym t ∙ e)
-
-  pub wrong-tilde : (l t : Bool) → k ≡ Tilde → l ≡ isLetter n → l ≡ t → when t 0 25 ≡ wrongOf q p x n
-  wrong-tilde l t i f g = ap (λ (u : Bool). when u 0 25) (sym g ∙ f) ∙ wrong-known Tilde i
-
-  pub wrong-graphic : (r t : Bool) → k ≡ Graphic → r ≡ mayRun q p → r ≡ t → when t 0 24 ≡ wrongOf q p x n
-  wrong-graphic r t i f g = ap (λ (u : Bool). when u 0 24) (sym g ∙ f) ∙ wrong-known Graphic i
 
 -- at a caret or behind the end the text is whole
 pub text-end : (b : List ℕ) (q p i x : ℕ) → x ≡ getD b i caret → x ≡ caret → Right i 0 ≡ textOf q p i (paramOf (drop i b))

@@ -2,42 +2,28 @@
 use Prim.Native.Nat.{ℕ, _+_}
 use mathlib.Core.List.{List, [], _∷_}
 use mathlib.Core.Bool.{Bool}
-use lib.Dec.{eqb, ltb, leb}
+use lib.Dec.{eqb}
 use lib.ListN.{getD}
 use Rattle.basis.specs.Choice.{when, _and_, _or_}
-use Rattle.params.specs.Bytes.{caret, tilde, firstOf}
-use Rattle.params.specs.declared.ByteKind.{ByteKind}
-use Rattle.params.specs.declared.ByteKind.the-variants.{Plain, Tilde, Graphic, Forbidden}
+use Rattle.params.specs.Bytes.{caret, firstOf}
+use Rattle.params.specs.Kinds.{Plain, Tilde, Column, kindIs}
 use Rattle.params.specs.declared.Parameter.{Parameter}
 use Rattle.params.specs.declared.Parameter.the-variants.{Right, Wrong}
-
--- what a byte is within a text: 20h to 7Dh without the caret, 7Eh, 80h to FFh, or none of these
-abbrev pub kindOf : ℕ → ByteKind
-kindOf x =
-    when (ltb x 0x20) Forbidden
-    (when (eqb x caret) Forbidden
-    (when (ltb x 0x7E) Plain
-    (when (eqb x tilde) Tilde
-    (when (eqb x 0x7F) Forbidden Graphic))))
 
 -- one of `B b C c D d G`
 abbrev pub isLetter : ℕ → Bool
 isLetter x = eqb x 0x42 or eqb x 0x62 or eqb x 0x43 or eqb x 0x63 or eqb x 0x44 or eqb x 0x64 or eqb x 0x47
 
--- directly after `~G` or after another graphic byte, `before` and `last` being the two bytes in front
+-- directly after `~G` or after another column, `before` and `last` being the two bytes in front
 abbrev pub mayRun : ℕ → ℕ → Bool
-mayRun before last = leb 0x80 last or (eqb before tilde and eqb last 0x47)
+mayRun before last = kindIs Column last or (kindIs Tilde before and eqb last 0x47)
 
--- what is wrong with a byte of this kind, by whether it may run on and whether a letter follows: 0 where nothing is
-abbrev pub wrongBy : ByteKind → Bool → Bool → ℕ
-wrongBy Plain run letter = 0
-wrongBy Tilde run letter = when letter 0 25
-wrongBy Graphic run letter = when run 0 24
-wrongBy Forbidden run letter = 24
-
--- what is wrong with the byte x, the bytes before and last in front of it and the byte behind
+-- what is wrong with the byte x, the bytes before and last in front of it and the byte behind: 0 where nothing is
 abbrev pub wrongOf : ℕ → ℕ → ℕ → ℕ → ℕ
-wrongOf before last x behind = wrongBy (kindOf x) (mayRun before last) (isLetter behind)
+wrongOf before last x behind =
+    when (kindIs Plain x) 0
+    (when (kindIs Tilde x) (when (isLetter behind) 0 25)
+    (when (kindIs Column x and mayRun before last) 0 24))
 
 -- a text whose bytes stand from `at` on: the place behind it, or the first byte at fault
 abbrev pub textOf : (before last at : ℕ) → List ℕ → Parameter

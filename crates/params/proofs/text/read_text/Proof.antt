@@ -1,22 +1,24 @@
--- `program::text::read_text` meets its contract. The invariant: the text from the place on, behind the two bytes before it, reads
--- as the whole does. The measure is what is left of the body.
-use Prim.Native.Nat.{_-_}
-use mathlib.Core.Path.{_≡_, sym, _∙_}
+-- `params::text::read_text` meets its contract. The invariant: the text from the place on reads as the whole does. The measure is what is
+-- left of the body.
+use Prim.Native.Nat.{ℕ, _-_}
+use mathlib.Core.Path.{_≡_, refl, sym, ap, _∙_}
 use native.Mathlib.Omega.{arith}
-use lib.ListN.{length, drop}
+use lib.ListN.{length, getD, drop}
 use borrow.Author.Needs.{needs}
-use Rattle.params.specs.Bytes.{paramOf}
+use Rattle.params.specs.Bytes.{caret, paramOf}
+use Rattle.params.specs.Kinds.{kindOf, entryOf}
 use Rattle.params.specs.Text.{textOf}
 use Rattle.params.proofs.Places.{within-body}
-use Rattle.params.proofs.Texts.{text-end, text-bad, text-next}
+use Rattle.params.proofs.Texts.{text-end, text-bad}
+use Rattle.params.proofs.Pieces.{piece-goes, text-piece}
 use Rattle.params.proofs.text.read_text.Statement.{statement}
 use Rattle.params.proofs.text.read_text.Tie as tie
 
 abbrev Inv-loop : tie.InvT-loop
-Inv-loop body from at₀ before₀ last₀ at before last = textOf before last at (paramOf (drop at body)) ≡ textOf 0 0 from (paramOf (drop from body))
+Inv-loop body from at₀ at = textOf 0 0 at (paramOf (drop at body)) ≡ textOf 0 0 from (paramOf (drop from body))
 
 abbrev μ-loop : tie.MeasureT-loop
-μ-loop body from at₀ before₀ last₀ at before last = length body - at
+μ-loop body from at₀ at = length body - at
 
 loop-holds : tie.Need-loop-holds Inv-loop μ-loop
 loop-holds c = search needs
@@ -28,53 +30,52 @@ returns : tie.Need-returns Inv-loop μ-loop
 returns c =
     let o = c .before in
     let l = o .before .loop in
-    text-end (o .before .before .before .args .body .now) (l .before) (l .last) (l .at) (o .byte-at .result) (o .byte-at .ensures)
-    (c .if1 .taken)
-    ∙ l .inv
+    text-end (o .before .before .before .args .body .now) 0 0 (l .at) (o .byte-at .result) (o .byte-at .ensures) (c .if1 .taken) ∙ l .inv
+
+kind-of-requires : tie.Need-kind-of-requires Inv-loop μ-loop
+kind-of-requires c κs = search needs
 
 wrong-requires : tie.Need-wrong-requires Inv-loop μ-loop
 wrong-requires c κs =
-    let o = c .before in
-    within-body (o .before .before .before .args .body .now) (o .before .loop .at) (λ k. c .if1 .left (o .byte-at .ensures ∙ k))
+    let o = c .before .before in
+    (within-body (o .before .before .before .args .body .now) (o .before .loop .at) (λ k. c .before .if1 .left (o .byte-at .ensures ∙ k)), c .kind-of .ensures ∙ ap (λ (y : ℕ). entryOf (kindOf y)) (o .byte-at .ensures))
 
 returns-2 : tie.Need-returns-2 Inv-loop μ-loop
 returns-2 c =
     let w = c .before in
-    let e = w .before in
+    let e = w .before .before in
     let o = e .before in
     let l = o .before .loop in
-    text-bad (o .before .before .before .args .body .now) (l .before) (l .last) (l .at) (o .byte-at .result) (w .wrong .result)
-    (o .byte-at .ensures)
-    (e .if1 .left)
-    (w .wrong .ensures)
-    (c .if2 .taken)
-    ∙ l .inv
+    let b = o .before .before .before .args .body .now in
+    text-bad b 0 0 (l .at) (getD b (l .at) caret) (w .wrong .result) refl (λ k. e .if1 .left (o .byte-at .ensures ∙ k)) (w .wrong .ensures) (c .if2 .taken) ∙ l .inv
 
-add-at : tie.Need-add-at Inv-loop μ-loop
-add-at c =
-    let e = c .before .before in
+piece-end-requires : tie.Need-piece-end-requires Inv-loop μ-loop
+piece-end-requires c κs =
+    let k = c .before .before in
+    let e = k .before in
     let o = e .before in
-    let h = within-body (o .before .before .before .args .body .now) (o .before .loop .at) (λ k. e .if1 .left (o .byte-at .ensures ∙ k)) in
-    search needs
+    (within-body (o .before .before .before .args .body .now) (o .before .loop .at) (λ k. e .if1 .left (o .byte-at .ensures ∙ k)), k .kind-of .ensures ∙ ap (λ (y : ℕ). entryOf (kindOf y)) (o .byte-at .ensures))
 
 loop-less : tie.Need-loop-less Inv-loop μ-loop
 loop-less c =
-    let e = c .before .before in
+    let e = c .before .before .before .before in
     let o = e .before in
-    let h = within-body (o .before .before .before .args .body .now) (o .before .loop .at) (λ k. e .if1 .left (o .byte-at .ensures ∙ k)) in
+    let l = o .before .loop in
+    let b = o .before .before .before .args .body .now in
+    let h = within-body b (l .at) (λ k. e .if1 .left (o .byte-at .ensures ∙ k)) in
+    let g = piece-goes b (l .at) in
+    let r = c .piece-end .ensures in
     omega arith
 
 loop-again : tie.Need-loop-again Inv-loop μ-loop
 loop-again c =
-    let w = c .before in
-    let e = w .before in
+    let w = c .before .before in
+    let e = w .before .before in
     let o = e .before in
     let l = o .before .loop in
-    sym (text-next (o .before .before .before .args .body .now) (l .before) (l .last) (l .at) (o .byte-at .result) (w .wrong .result)
-    (o .byte-at .ensures)
-    (e .if1 .left)
-    (w .wrong .ensures)
-    (c .if2 .left))
+    let b = o .before .before .before .args .body .now in
+    ap (λ (n : ℕ). textOf 0 0 n (paramOf (drop n b))) (c .piece-end .ensures)
+    ∙ sym (text-piece b (l .at) (λ k. e .if1 .left (o .byte-at .ensures ∙ k)) (sym (w .wrong .ensures) ∙ c .before .if2 .left))
     ∙ l .inv
 
 pub read-text-spec : {M : Type 1} → statement M
@@ -86,8 +87,9 @@ read-text-spec =
     loop-holds
     byte-at-requires
     returns
+    kind-of-requires
     wrong-requires
     returns-2
-    add-at
+    piece-end-requires
     loop-less
     loop-again)

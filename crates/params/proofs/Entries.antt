@@ -1,0 +1,52 @@
+-- The table's rule.
+use Prim.Native.Nat.{ℕ, zero, suc, _*_, _/_, _%_, _^_, _≤_, _<_}
+use mathlib.Core.Path.{_≡_, refl, sym, ap, _∙_}
+use mathlib.Core.Bool.{Bool, true, false}
+use mathlib.Core.Logic.{dite}
+use native.Mathlib.Omega.{arith}
+use native.Mathlib.Decide.{decLt}
+use borrow.Author.Tests.{eqb-true}
+use lib.Dec.{eqb}
+use lib.ListN.{getD}
+use Rattle.basis.specs.Choice.{_and_}
+use Rattle.basis.proofs.Choices.{and-parts}
+use Rattle.params.specs.Kinds.{kindOf, entryOf}
+use Rattle.params.specs.Pieces.{table}
+
+-- a test that holds at every number below n
+every : (ℕ → Bool) → ℕ → Bool
+every f zero = true
+every f (suc n) = f n and every f n
+
+every-at : (f : ℕ → Bool) (n : ℕ) → every f n ≡ true → (k : ℕ) → k < n → f k ≡ true
+unfolding every
+every-at f zero e k h = absurd (omega arith)
+every-at f (suc n) e k h =
+    let p = and-parts (f n) (every f n) e in
+    dite (decLt k n) (λ l. every-at f n (p .1) k l) (λ l. let q : k ≡ n = omega arith in ap f q ∙ p .0)
+
+-- the entry of a byte in the table
+abbrev pub entry : ℕ → ℕ
+entry x = getD table (x / 8) 0 / 2 ^ (x % 8 * 4) % 16
+
+abbrev right : ℕ → Bool
+right x = eqb (entry x) (entryOf (kindOf x))
+
+all-right : every right 256 ≡ true
+unfolding every
+all-right = refl
+
+pub entry-is : (x : ℕ) → x < 256 → entry x ≡ entryOf (kindOf x)
+entry-is x h = eqb-true (entry x) (entryOf (kindOf x)) (every-at right 256 all-right x h)
+
+-- n is none of the numbers below k
+abbrev None : ℕ → ℕ → Type 0
+None zero n = Unit {0}
+None (suc k) n = None k n × (n ≡ k → ⊥)
+
+pub none-below : (k n : ℕ) → None k n → k ≤ n
+none-below zero n r = omega arith
+none-below (suc k) n r = let h = none-below k n (r .0) in let g = r .1 in omega (arith, g)
+
+pub last-row : (n : ℕ) → 31 ≤ n → n < 32 → n ≡ 31
+last-row n g h = omega arith

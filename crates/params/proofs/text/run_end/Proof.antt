@@ -1,0 +1,87 @@
+-- `params::text::run_end` meets its contract. The invariant: the run that is left ends where the whole ends. The measure is what is left of
+-- the body.
+use Prim.Native.Nat.{ℕ, _+_, _-_}
+use mathlib.Core.Path.{_≡_, ap, _∙_}
+use native.Mathlib.Omega.{arith}
+use lib.ListN.{length, getD, drop}
+use borrow.Author.Needs.{needs}
+use Rattle.params.specs.Bytes.{caret}
+use Rattle.params.specs.Kinds.{Column, kindOf, entryOf}
+use Rattle.params.specs.Pieces.{runOf}
+use Rattle.params.proofs.Places.{within-body}
+use Rattle.params.proofs.Pieces.{kind-yes, kind-no, not-caret, run-next, run-ends}
+use Rattle.params.proofs.text.run_end.Statement.{statement}
+use Rattle.params.proofs.text.run_end.Tie as tie
+
+abbrev Inv-loop : tie.InvT-loop
+Inv-loop body from at₀ at = at + runOf (drop at body) ≡ from + runOf (drop from body)
+
+abbrev μ-loop : tie.MeasureT-loop
+μ-loop body from at₀ at = length body - at
+
+loop-holds : tie.Need-loop-holds Inv-loop μ-loop
+loop-holds c = search needs
+
+byte-at-requires : tie.Need-byte-at-requires Inv-loop μ-loop
+byte-at-requires c κs = search needs
+
+kind-of-requires : tie.Need-kind-of-requires Inv-loop μ-loop
+kind-of-requires c κs = search needs
+
+add-at : tie.Need-add-at Inv-loop μ-loop
+add-at c =
+    let k = c .before in
+    let o = k .before in
+    let b = o .before .before .before .args .body .now in
+    let x = getD b (o .before .loop .at) caret in
+    let e = kind-yes Column x (k .kind-of .result) (k .kind-of .ensures ∙ ap (λ (y : ℕ). entryOf (kindOf y)) (o .byte-at .ensures)) (c .if1 .taken) in
+    let h = within-body b (o .before .loop .at) (not-caret Column x e (λ z. omega arith)) in
+    search needs
+
+loop-less : tie.Need-loop-less Inv-loop μ-loop
+loop-less c =
+    let k = c .before in
+    let o = k .before in
+    let b = o .before .before .before .args .body .now in
+    let x = getD b (o .before .loop .at) caret in
+    let e = kind-yes Column x (k .kind-of .result) (k .kind-of .ensures ∙ ap (λ (y : ℕ). entryOf (kindOf y)) (o .byte-at .ensures)) (c .if1 .taken) in
+    let h = within-body b (o .before .loop .at) (not-caret Column x e (λ z. omega arith)) in
+    omega arith
+
+loop-again : tie.Need-loop-again Inv-loop μ-loop
+loop-again c =
+    let k = c .before in
+    let o = k .before in
+    let l = o .before .loop in
+    let b = o .before .before .before .args .body .now in
+    let x = getD b (l .at) caret in
+    let e = kind-yes Column x (k .kind-of .result) (k .kind-of .ensures ∙ ap (λ (y : ℕ). entryOf (kindOf y)) (o .byte-at .ensures)) (c .if1 .taken) in
+    let r = run-next b (l .at) e in
+    let i = l .inv in
+    omega arith
+
+returns : tie.Need-returns Inv-loop μ-loop
+returns c =
+    let k = c .before in
+    let o = k .before in
+    let l = o .before .loop in
+    let b = o .before .before .before .args .body .now in
+    let x = getD b (l .at) caret in
+    let e = kind-no Column x (k .kind-of .result) (k .kind-of .ensures ∙ ap (λ (y : ℕ). entryOf (kindOf y)) (o .byte-at .ensures)) (c .if1 .left) in
+    let r = run-ends b (l .at) e in
+    let i = l .inv in
+    omega arith
+
+pub run-end-spec : {M : Type 1} → statement M
+run-end-spec =
+    tie.close
+    (tie.spec
+    Inv-loop
+    μ-loop
+    loop-holds
+    byte-at-requires
+    kind-of-requires
+    add-at
+    loop-less
+    loop-again
+    returns)

@@ -32,7 +32,7 @@
 /* The version of this header. yd_version has the archive's. */
 #define YD_VERSION_MAJOR 1
 #define YD_VERSION_MINOR 0
-#define YD_VERSION_PATCH 1
+#define YD_VERSION_PATCH 2
 #define YD_VERSION (YD_VERSION_MAJOR * 65536u + YD_VERSION_MINOR * 256u + YD_VERSION_PATCH)
 
 /* A result that must be used, and pointers that must not be null, where the compiler knows how to say it. */

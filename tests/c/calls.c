@@ -129,8 +129,8 @@ static void results(void)
     CHECK(yd_value(0x123415u), 0x1234);
     CHECK(yd_value(0xFFFFFF00u), 0xFFFFFF);
     CHECK(yd_word(words, 1), 0xF2345678u);
-    CHECK(YD_VERSION, 65537);
-    CHECK(yd_version(), yes(65537));
+    CHECK(YD_VERSION, 65538);
+    CHECK(yd_version(), yes(65538));
     CHECK(yd_value(yd_version()), YD_VERSION);
 }
 

@@ -23,7 +23,8 @@ pub fn print(cases: &[Case]) -> Result<(), String> {
     print_prices(&prices);
     print_growth(&prices);
     print_stack(cases);
-    print_size(&size::objects()?);
+    let objects = size::objects()?;
+    print_size(&objects, size::kinds(&objects)?);
     Ok(())
 }
 
@@ -110,7 +111,7 @@ fn print_stack(cases: &[Case]) {
     println!();
 }
 
-fn print_size(objects: &[size::Object]) {
+fn print_size(objects: &[size::Object], kinds: u64) {
     println!("## Bytes of the archive\n");
     println!(
         "Sections that are loaded, by `size`; the caller's program may leave out functions that it does not call.\n"
@@ -121,6 +122,7 @@ fn print_size(objects: &[size::Object]) {
     print_sum("the library", &own);
     print_sum("other objects", &others);
     print_sum("all", &objects.iter().collect::<Vec<_>>());
+    println!("| of these, the table of byte kinds | 0 | {kinds} | 0 |");
 }
 
 fn print_sum(name: &str, objects: &[&size::Object]) {

@@ -1,6 +1,6 @@
 //! How often calls came up on ground where they can easily go wrong: images with one fault only, refusals that must come in
-//! their order, changes of what the one room holds, settings that a forecast leaves, and stretches at an edge.
-//! Answers to the C interface's layout of an image and its order of refusals, and to 01 on the forecast and the repeater.
+//! their order, changes of what the one room holds, bytes of a text, what a forecast leaves, and stretches at an edge.
+//! Answers to the C interface's layout of an image and its order of refusals, and to 01 on texts, forecast, repeater.
 
 use crate::case::{After, Case, Function, SHAPES};
 use crate::records::is_sound;
@@ -11,7 +11,7 @@ use reference::image::{
 use reference::packet::{DATA_MOST, REPLY, read_packet};
 use reference::program::{Kind, Loop, Reader, judge};
 
-use Function::{CopyBody, Forecast, Receive, Repeat, Reply, Reset, Step};
+use Function::{CopyBody, Forecast, Judge, Receive, Repeat, Reply, Reset, Step};
 
 type Met = fn(&Case, &After) -> bool;
 
@@ -32,13 +32,14 @@ const BUFFERS: &[Function] = &[Reply, CopyBody];
 const RESETS: &[Function] = &[Reset, Receive];
 const PACKETS: &[Function] = &[Receive];
 const STEPS: &[Function] = &[Step];
+const JUDGES: &[Function] = &[Judge];
 const FORECASTS: &[Function] = &[Forecast];
 const REPEATS: &[Function] = &[Repeat];
 
 /// What makes an image unsound by itself, then the order of refusals, then what changes the room or must leave it.
-/// Behind them a forecast's refusals, then what it leaves, then the edges of what the repeater is told.
+/// Behind them the bytes of a text, a forecast's refusals, what it leaves, and the edges of what the repeater is told.
 #[rustfmt::skip]
-const GROUNDS: [Ground; 48] = [
+const GROUNDS: [Ground; 54] = [
     ground("AUX byte over 1, all else sound", ALL, |case, _| faulty(case, right_aux)),
     ground("Busy with stray collection bytes, all else sound", ALL,
         |case, _| is_busy(case) && faulty(case, no_collection)),
@@ -75,6 +76,16 @@ const GROUNDS: [Ground; 48] = [
         |case, after| did_release_collected(case, after) && after.image()[AT_LENGTH] == 0),
     ground("last step of a program", STEPS,
         |case, after| is_busy(case) && is_no(after, 0) && after.image()[AT_LENGTH] == 0),
+
+    ground("a column right after `~G`, a program", JUDGES,
+        |case, after| is_no(after, 0) && case.bytes.windows(3).any(|run| run.starts_with(b"~G") && is_column(run[2]))),
+    ground("a column right after another, a program", JUDGES,
+        |case, after| is_no(after, 0) && case.bytes.windows(2).any(|run| is_column(run[0]) && is_column(run[1]))),
+    ground("a column after neither (24)", JUDGES, |case, after| wrong_in_text(case, after, 24, is_column)),
+    ground("a control byte in a text (24)", JUDGES, |case, after| wrong_in_text(case, after, 24, |byte| byte < 0x20)),
+    ground("7Fh in a text (24)", JUDGES, |case, after| wrong_in_text(case, after, 24, |byte| byte == 0x7F)),
+    ground("a tilde before none of its letters (25)", JUDGES,
+        |case, after| wrong_in_text(case, after, 25, |byte| byte == b'~')),
 
     ground("answer of four or five words, all else right (252)", FORECASTS,
         |case, after| is_no(after, 252) && case.out.len() >= 16 && in_range(case) && is_program(case)),
@@ -164,6 +175,22 @@ fn is_short(case: &Case) -> bool {
 
 fn is_wrong_packet(case: &Case) -> bool {
     read_packet(case.numbers[0] as u8, &case.bytes).is_err()
+}
+
+fn is_column(byte: u8) -> bool {
+    byte >= 0x80
+}
+
+/// Whether a body is refused with this number for such a byte of a text; a command without a parameter earns 24 too.
+fn wrong_in_text(case: &Case, after: &After, no: u32, such: fn(u8) -> bool) -> bool {
+    let place = (after.result >> 8) as usize;
+    is_no(after, no) && in_text(&case.bytes, place) && case.bytes.get(place).is_some_and(|&byte| such(byte))
+}
+
+/// Whether this place of a body is in a text: the last caret before it begins an `I` command or an `S`.
+fn in_text(body: &[u8], place: usize) -> bool {
+    let caret = body.get(..place).and_then(|before| before.iter().rposition(|&byte| byte == b'^'));
+    caret.is_some_and(|caret| matches!(body.get(caret + 1), Some(b'I' | b'S')))
 }
 
 /// Whether a forecast is asked from settings that there are.

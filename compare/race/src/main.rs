@@ -16,6 +16,7 @@ mod ride;
 mod shrink;
 mod sizes;
 mod tally;
+mod texts;
 mod wire;
 
 use damage::Damage;
@@ -51,7 +52,8 @@ fn main() -> ExitCode {
 fn once(racer: &mut Racer) -> Option<()> {
     sizes::buffers(racer)?;
     sizes::images(racer)?;
-    numbers::numbers(racer)
+    numbers::numbers(racer)?;
+    texts::texts(racer)
 }
 
 /// A round of each sort of call; none when the calls are used up.

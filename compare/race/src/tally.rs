@@ -4,11 +4,11 @@
 use crate::case::{After, Case, Function, SHAPES};
 use crate::ground::Grounds;
 
-/// A count over the values that one word of an answer, or a result, can take.
+/// A count over the values that one word of an answer, a result, or one byte of what was asked can take.
 struct Group {
     name: &'static str,
     function: Function,
-    read: fn(&After) -> Option<u32>,
+    read: fn(&Case, &After) -> Option<u32>,
     expected: &'static [u32],
 }
 
@@ -16,21 +16,29 @@ fn yes(after: &After) -> bool {
     after.result & 0xFF == 0
 }
 
-fn first_word(after: &After) -> Option<u32> {
+fn first_word(_: &Case, after: &After) -> Option<u32> {
     yes(after).then(|| after.word(0))
 }
 
-fn released(after: &After) -> Option<u32> {
+fn released(_: &Case, after: &After) -> Option<u32> {
     (yes(after) && after.word(0) == 5).then(|| after.word(1))
 }
 
-fn value(after: &After) -> Option<u32> {
+fn value(_: &Case, after: &After) -> Option<u32> {
     yes(after).then_some(after.result >> 8)
 }
 
 /// The number of a command that a step performed, if it is an `XB`, which takes every number of a byte.
-fn brightness(after: &After) -> Option<u32> {
+fn brightness(_: &Case, after: &After) -> Option<u32> {
     (yes(after) && after.word(0) == 15).then(|| after.word(1))
+}
+
+/// The byte that is the whole text of a body with one `S`, whatever the answer to it.
+fn lone_byte(case: &Case, _: &After) -> Option<u32> {
+    match case.bytes[..] {
+        [b'^', b'S', byte] => Some(byte.into()),
+        _ => None,
+    }
 }
 
 /// Each number of a byte.
@@ -45,19 +53,21 @@ const BYTES: [u32; VALUES] = {
 };
 
 #[rustfmt::skip]
-const GROUPS: [Group; 13] = [
+const GROUPS: [Group; 14] = [
     Group { name: "yd_read_packet, what", function: Function::ReadPacket, read: first_word, expected: &[1, 2, 3] },
     Group { name: "yd_read_reply, Busy", function: Function::ReadReply,
-        read: |after| yes(after).then(|| after.word(1)), expected: &[0, 1] },
+        read: |_, after| yes(after).then(|| after.word(1)), expected: &[0, 1] },
     Group { name: "yd_read_reply, AUX reads S", function: Function::ReadReply,
-        read: |after| yes(after).then(|| after.word(2)), expected: &[0, 1] },
+        read: |_, after| yes(after).then(|| after.word(2)), expected: &[0, 1] },
     Group { name: "yd_judge, endless", function: Function::Judge, read: value, expected: &[0, 1] },
+    Group { name: "yd_judge, byte after `^S` in a body of three bytes", function: Function::Judge, read: lone_byte,
+        expected: &BYTES },
     Group { name: "yd_forecast, endless", function: Function::Forecast, read: first_word, expected: &[0, 1] },
     Group { name: "yd_forecast, pace left, 0 if endless", function: Function::Forecast,
-        read: |after| yes(after).then(|| after.word(4)),
+        read: |_, after| yes(after).then(|| after.word(4)),
         expected: &[0, 1, 2, 3, 4, 5, 6, 7, 8, 9, 10, 11, 12, 13, 14, 15, 16, 17, 18, 19, 20] },
     Group { name: "yd_forecast, scan setting left, 0 if endless", function: Function::Forecast,
-        read: |after| yes(after).then(|| after.word(5)), expected: &[0, 1, 2, 3, 4, 5, 6] },
+        read: |_, after| yes(after).then(|| after.word(5)), expected: &[0, 1, 2, 3, 4, 5, 6] },
     Group { name: "yd_receive, outcome", function: Function::Receive, read: first_word, expected: &[1, 2, 3, 4, 5] },
     Group { name: "yd_receive, number of a released body", function: Function::Receive, read: released,
         expected: &[0, 21, 22, 23, 24, 25, 26, 27] },
@@ -65,7 +75,7 @@ const GROUPS: [Group; 13] = [
         expected: &[0, 1, 2, 3, 4, 5, 6, 7, 8, 9, 10, 11, 12, 13, 14, 15, 16] },
     Group { name: "yd_step, number of an XB", function: Function::Step, read: brightness, expected: &BYTES },
     Group { name: "yd_write_packet, packets in full or not", function: Function::WritePacket,
-        read: |after| value(after).map(|length| u32::from(length == 21)), expected: &[0, 1] },
+        read: |case, after| value(case, after).map(|length| u32::from(length == 21)), expected: &[0, 1] },
     Group { name: "yd_repeat, shows the stretch", function: Function::Repeat, read: value, expected: &[0, 1] },
 ];
 
@@ -95,7 +105,7 @@ impl Tally {
         self.noes[function][(after.result & 0xFF) as usize] += 1;
         for (group, counts) in GROUPS.iter().zip(&mut self.groups) {
             if group.function == case.function
-                && let Some(value) = (group.read)(after)
+                && let Some(value) = (group.read)(case, after)
             {
                 counts[(value as usize).min(VALUES - 1)] += 1;
             }

@@ -92,8 +92,8 @@ fn the_repeater_tells_which_in_its_value() {
 }
 
 #[test]
-fn the_version_is_1_0_1() {
-    assert_eq!(calls::version(), 16_777_472);
+fn the_version_is_1_0_2() {
+    assert_eq!(calls::version(), 16_777_728);
 }
 
 #[test]

@@ -1,7 +1,8 @@
--- The table's rule.
+-- The rule of the table of byte kinds (L4, P15): one test, computed over all 256 entries, and the law that turns it into the rule at each
+-- byte. Then which row is asked where the row is none of the first 31.
 use Prim.Native.Nat.{ℕ, zero, suc, _*_, _/_, _%_, _^_, _≤_, _<_}
-use mathlib.Core.Path.{_≡_, refl, sym, ap, _∙_}
-use mathlib.Core.Bool.{Bool, true, false}
+use mathlib.Core.Path.{_≡_, refl, ap, _∙_}
+use mathlib.Core.Bool.{Bool, true}
 use mathlib.Core.Logic.{dite}
 use native.Mathlib.Omega.{arith}
 use native.Mathlib.Decide.{decLt}
@@ -10,8 +11,8 @@ use lib.Dec.{eqb}
 use lib.ListN.{getD}
 use Rattle.basis.specs.Choice.{_and_}
 use Rattle.basis.proofs.Choices.{and-parts}
-use Rattle.params.specs.Kinds.{kindOf, entryOf}
-use Rattle.params.specs.Pieces.{table}
+use Rattle.params.specs.Kinds.{kindOf, digitOf}
+use Rattle.params.specs.Pieces.{kindRows}
 
 -- a test that holds at every number below n
 every : (ℕ → Bool) → ℕ → Bool
@@ -27,17 +28,19 @@ every-at f (suc n) e k h =
 
 -- the entry of a byte in the table
 abbrev pub entry : ℕ → ℕ
-entry x = getD table (x / 8) 0 / 2 ^ (x % 8 * 4) % 16
+entry x = getD kindRows (x / 8) 0 / 2 ^ (x % 8 * 4) % 16
 
+-- that it is the digit of the byte's kind, tested, and the test computed at every byte
 abbrev right : ℕ → Bool
-right x = eqb (entry x) (entryOf (kindOf x))
+right x = eqb (entry x) (digitOf (kindOf x))
 
 all-right : every right 256 ≡ true
 unfolding every
 all-right = refl
 
-pub entry-is : (x : ℕ) → x < 256 → entry x ≡ entryOf (kindOf x)
-entry-is x h = eqb-true (entry x) (entryOf (kindOf x)) (every-at right 256 all-right x h)
+-- the entry of each byte is the digit of its kind
+pub entry-is : (x : ℕ) → x < 256 → entry x ≡ digitOf (kindOf x)
+entry-is x h = eqb-true (entry x) (digitOf (kindOf x)) (every-at right 256 all-right x h)
 
 -- n is none of the numbers below k
 abbrev None : ℕ → ℕ → Type 0

@@ -1,5 +1,5 @@
 -- A text passed in pieces: what stands in front of a piece does not count, so behind each piece the text reads as if it began there.
-use Prim.Native.Nat.{ℕ, zero, suc, _+_, _<_, _≤_}
+use Prim.Native.Nat.{ℕ, suc, _+_, _<_, _≤_}
 use mathlib.Core.Path.{_≡_, refl, sym, ap, _∙_}
 use mathlib.Core.Bool.{Bool, true, false}
 use mathlib.Core.List.{List, [], _∷_}
@@ -14,9 +14,9 @@ use Rattle.basis.specs.Choice.{when, _and_, _or_}
 use Rattle.basis.proofs.Choices.{when-true, when-false}
 use Rattle.basis.proofs.Lists.{drop-next}
 use Rattle.params.specs.Bytes.{caret, paramOf, firstOf}
-use Rattle.params.specs.Kinds.{ByteKind, Plain, Tilde, Column, kindOf, entryOf, kindIs}
+use Rattle.params.specs.Kinds.{ByteKind, Plain, Tilde, Column, kindOf, digitOf, kindIs}
 use Rattle.params.specs.Text.{isLetter, mayRun, wrongOf, textOf}
-use Rattle.params.specs.Pieces.{runOf, pieceOf}
+use Rattle.params.specs.Pieces.{runLength, pieceOf}
 use Rattle.params.specs.declared.Parameter.{Parameter}
 use Rattle.params.specs.declared.Parameter.the-variants.{Right, Wrong}
 use Rattle.params.proofs.Places.{within-body, param-cons, param-first}
@@ -34,18 +34,21 @@ or-cases : {C : Type 0} (a b : Bool) → a or b ≡ true → (a ≡ true → C) 
 or-cases true b e f g = f refl
 or-cases false b e f g = g e
 
--- a byte of one kind: what the test for any kind says of it, that it is no caret unless that is its kind, and the test by the kind's number
-pub kind-known : (j k : ByteKind) (x : ℕ) → kindIs j x ≡ true → kindIs k x ≡ eqb (entryOf j) (entryOf k)
-kind-known j k x e = ap (λ (n : ℕ). eqb n (entryOf k)) (eqb-true (entryOf (kindOf x)) (entryOf j) e)
+-- a byte of one kind: what the test for any kind says of it, the test by the kind's digit, and that it is no caret unless that is its kind
+pub kind-known : (j k : ByteKind) (x : ℕ) → kindIs j x ≡ true → kindIs k x ≡ eqb (digitOf j) (digitOf k)
+kind-known j k x e = ap (λ (n : ℕ). eqb n (digitOf k)) (eqb-true (digitOf (kindOf x)) (digitOf j) e)
 
-pub kind-yes : (k : ByteKind) (x n : ℕ) → n ≡ entryOf (kindOf x) → n ≡ entryOf k → kindIs k x ≡ true
-kind-yes k x n e h = eq-eqb (entryOf (kindOf x)) (entryOf k) (sym e ∙ h)
+pub kind-there : (y z n : ℕ) → n ≡ digitOf (kindOf y) → y ≡ z → n ≡ digitOf (kindOf z)
+kind-there y z n e h = e ∙ ap (λ (x : ℕ). digitOf (kindOf x)) h
 
-pub kind-no : (k : ByteKind) (x n : ℕ) → n ≡ entryOf (kindOf x) → (n ≡ entryOf k → ⊥) → kindIs k x ≡ false
-kind-no k x n e h = ne-eqb (entryOf (kindOf x)) (entryOf k) (λ z. h (e ∙ z))
+pub kind-yes : (k : ByteKind) (x n : ℕ) → n ≡ digitOf (kindOf x) → n ≡ digitOf k → kindIs k x ≡ true
+kind-yes k x n e h = eq-eqb (digitOf (kindOf x)) (digitOf k) (sym e ∙ h)
 
-pub not-caret : (k : ByteKind) (x : ℕ) → kindIs k x ≡ true → (2 ≡ entryOf k → ⊥) → x ≡ caret → ⊥
-not-caret k x e n z = n (sym (ap (λ (y : ℕ). entryOf (kindOf y)) z) ∙ eqb-true (entryOf (kindOf x)) (entryOf k) e)
+pub kind-no : (k : ByteKind) (x n : ℕ) → n ≡ digitOf (kindOf x) → (n ≡ digitOf k → ⊥) → kindIs k x ≡ false
+kind-no k x n e h = ne-eqb (digitOf (kindOf x)) (digitOf k) (λ z. h (e ∙ z))
+
+pub not-caret : (k : ByteKind) (x : ℕ) → kindIs k x ≡ true → (2 ≡ digitOf k → ⊥) → x ≡ caret → ⊥
+not-caret k x e n z = n (sym (ap (λ (y : ℕ). digitOf (kindOf y)) z) ∙ eqb-true (digitOf (kindOf x)) (digitOf k) e)
 
 letter-plain : (l : ℕ) → isLetter l ≡ true → kindIs Plain l ≡ true
 letter-plain l e =
@@ -96,49 +99,49 @@ shut : (q p i : ℕ) (ds : List ℕ) → mayRun q p ≡ false → kindIs Tilde p
 shut q p i ds m t = front-forgotten q p i ds (ap (λ (u : Bool). kindIs Column (firstOf ds) and u) m ∙ and-false (kindIs Column (firstOf ds))) t
 
 -- columns that may run on are passed, all of them
-run-text : (q p i : ℕ) (ds : List ℕ) → mayRun q p ≡ true → kindIs Tilde p ≡ false → textOf q p i (paramOf ds) ≡ textOf 0 0 (i + runOf ds) (paramOf (drop (runOf ds) ds))
+run-text : (q p i : ℕ) (ds : List ℕ) → mayRun q p ≡ true → kindIs Tilde p ≡ false → textOf q p i (paramOf ds) ≡ textOf 0 0 (i + runLength ds) (paramOf (drop (runLength ds) ds))
 run-text q p i [] m t = let e : i ≡ i + 0 = omega arith in ap (λ (n : ℕ). Right n 0) e
 run-text q p i (y ∷ ys) m t = go (kindIs Column y) refl (λ n u. run-text p y (i + 1) ys n u)
   where
     go : (c : Bool) → kindIs Column y ≡ c
-        → (mayRun p y ≡ true → kindIs Tilde y ≡ false → textOf p y (i + 1) (paramOf ys) ≡ textOf 0 0 (i + 1 + runOf ys) (paramOf (drop (runOf ys) ys)))
-        → textOf q p i (paramOf (y ∷ ys)) ≡ textOf 0 0 (i + when c (suc (runOf ys)) 0) (paramOf (drop (when c (suc (runOf ys)) 0) (y ∷ ys)))
+        → (mayRun p y ≡ true → kindIs Tilde y ≡ false → textOf p y (i + 1) (paramOf ys) ≡ textOf 0 0 (i + 1 + runLength ys) (paramOf (drop (runLength ys) ys)))
+        → textOf q p i (paramOf (y ∷ ys)) ≡ textOf 0 0 (i + when c (suc (runLength ys)) 0) (paramOf (drop (when c (suc (runLength ys)) 0) (y ∷ ys)))
     go true e rest =
         let first = firstOf (paramOf ys) in
         let right : wrongOf q p y first ≡ 0 = wrong-column q p y first e ∙ ap (λ (u : Bool). when u 0 24) m in
-        let place : i + 1 + runOf ys ≡ i + suc (runOf ys) = omega arith in
+        let place : i + 1 + runLength ys ≡ i + suc (runLength ys) = omega arith in
         ap (textOf q p i) (param-cons y ys (not-caret Column y e (λ z. omega arith)))
         ∙ when-true (eqb (wrongOf q p y first) 0) (textOf p y (i + 1) (paramOf ys)) (Wrong (wrongOf q p y first) i) (eq-eqb (wrongOf q p y first) 0 right)
         ∙ rest (ap (λ (u : Bool). u or (kindIs Tilde p and eqb y 0x47)) e) (kind-known Column Tilde y e)
-        ∙ ap (λ (n : ℕ). textOf 0 0 n (paramOf (drop (runOf ys) ys))) place
+        ∙ ap (λ (n : ℕ). textOf 0 0 n (paramOf (drop (runLength ys) ys))) place
     go false e rest =
         let place : i ≡ i + 0 = omega arith in
         let first : kindIs Column (firstOf (paramOf (y ∷ ys))) and mayRun q p ≡ false = ap (λ (x : ℕ). kindIs Column x and mayRun q p) (param-first (y ∷ ys) 0) ∙ ap (λ (u : Bool). u and mayRun q p) e in
         front-forgotten q p i (paramOf (y ∷ ys)) first t ∙ ap (λ (n : ℕ). textOf 0 0 n (paramOf (y ∷ ys))) place
 
 -- a run of columns at a place goes on by a column, and ends at any other byte
-pub run-next : (b : List ℕ) (i : ℕ) → kindIs Column (getD b i caret) ≡ true → runOf (drop i b) ≡ suc (runOf (drop (i + 1) b))
-run-next b i e = ap runOf (drop-next b i caret (within-body b i (not-caret Column (getD b i caret) e (λ z. omega arith)))) ∙ when-true (kindIs Column (getD b i caret)) _ _ e
+pub run-next : (b : List ℕ) (i : ℕ) → kindIs Column (getD b i caret) ≡ true → runLength (drop i b) ≡ suc (runLength (drop (i + 1) b))
+run-next b i e = ap runLength (drop-next b i caret (within-body b i (not-caret Column (getD b i caret) e (λ z. omega arith)))) ∙ when-true (kindIs Column (getD b i caret)) _ _ e
 
-pub run-ends : (b : List ℕ) (i : ℕ) → kindIs Column (getD b i caret) ≡ false → runOf (drop i b) ≡ 0
+pub run-ends : (b : List ℕ) (i : ℕ) → kindIs Column (getD b i caret) ≡ false → runLength (drop i b) ≡ 0
 run-ends b i e =
     dite (decLt i (length b))
-    (λ (l : i < length b). ap runOf (drop-next b i caret l) ∙ when-false (kindIs Column (getD b i caret)) _ _ e)
-    (λ l. let k : length b ≤ i = omega arith in ap runOf (drop-of-length-le b k))
+    (λ (l : i < length b). ap runLength (drop-next b i caret l) ∙ when-false (kindIs Column (getD b i caret)) _ _ e)
+    (λ l. let k : length b ≤ i = omega arith in ap runLength (drop-of-length-le b k))
 
 -- the bytes of a piece, by the tests that the code makes
 module _ (b : List ℕ) (i : ℕ) where
   pub piece-one : kindIs Tilde (getD b i caret) ≡ false → pieceOf b i ≡ 1
   piece-one t = when-false (kindIs Tilde (getD b i caret)) _ _ t
 
-  pub piece-pair : (g : Bool) → kindIs Tilde (getD b i caret) ≡ true → eqb (getD b (i + 1) caret) 0x47 ≡ g → pieceOf b i ≡ 2 + when g (runOf (drop (i + 2) b)) 0
-  piece-pair g t e = when-true (kindIs Tilde (getD b i caret)) _ _ t ∙ ap (λ (u : Bool). 2 + when u (runOf (drop (i + 2) b)) 0) e
+  pub piece-pair : (g : Bool) → kindIs Tilde (getD b i caret) ≡ true → eqb (getD b (i + 1) caret) 0x47 ≡ g → pieceOf b i ≡ 2 + when g (runLength (drop (i + 2) b)) 0
+  piece-pair g t e = when-true (kindIs Tilde (getD b i caret)) _ _ t ∙ ap (λ (u : Bool). 2 + when u (runLength (drop (i + 2) b)) 0) e
 
 -- the place behind a piece lies further on
 pub piece-goes : (b : List ℕ) (i : ℕ) → i < i + pieceOf b i
 piece-goes b i = go (kindIs Tilde (getD b i caret))
   where
-    go : (t : Bool) → i < i + when t (2 + when (eqb (getD b (i + 1) caret) 0x47) (runOf (drop (i + 2) b)) 0) 1
+    go : (t : Bool) → i < i + when t (2 + when (eqb (getD b (i + 1) caret) 0x47) (runLength (drop (i + 2) b)) 0) 1
     go true = omega arith
     go false = omega arith
 
@@ -179,15 +182,15 @@ module _ (b : List ℕ) (i : ℕ) (h : getD b i caret ≡ caret → ⊥) (w : wr
       ∙ text-next b 0 x (i + 1) l 0 refl (not-caret Plain l e (λ z. omega arith)) (sym (wrong-plain 0 x l (getD b (i + 1 + 1) caret) e)) refl
       ∙ ap (λ (n : ℕ). textOf x l n (paramOf (drop n b))) place
 
-  pair-piece : kindIs Tilde (getD b i caret) ≡ true → from i ≡ from (i + (2 + when (eqb (getD b (i + 1) caret) 0x47) (runOf (drop (i + 2) b)) 0))
+  pair-piece : kindIs Tilde (getD b i caret) ≡ true → from i ≡ from (i + (2 + when (eqb (getD b (i + 1) caret) 0x47) (runLength (drop (i + 2) b)) 0))
   pair-piece t = pair t ∙ go (eqb (getD b (i + 1) caret) 0x47) refl
     where
-      go : (g : Bool) → eqb (getD b (i + 1) caret) 0x47 ≡ g → textOf (getD b i caret) (getD b (i + 1) caret) (i + 2) (paramOf (drop (i + 2) b)) ≡ from (i + (2 + when g (runOf (drop (i + 2) b)) 0))
+      go : (g : Bool) → eqb (getD b (i + 1) caret) 0x47 ≡ g → textOf (getD b i caret) (getD b (i + 1) caret) (i + 2) (paramOf (drop (i + 2) b)) ≡ from (i + (2 + when g (runLength (drop (i + 2) b)) 0))
       go true g =
           let x = getD b i caret in
           let l = getD b (i + 1) caret in
           let e = letter-plain l (letter t) in
-          let n = runOf (drop (i + 2) b) in
+          let n = runLength (drop (i + 2) b) in
           let m : mayRun x l ≡ true = ap (λ (u : Bool). kindIs Column l or (u and eqb l 0x47)) t ∙ ap (λ (u : Bool). kindIs Column l or u) g ∙ or-true (kindIs Column l) in
           let place : i + 2 + n ≡ i + (2 + n) = omega arith in
           run-text x l (i + 2) (drop (i + 2) b) m (kind-known Plain Tilde l e)
@@ -204,6 +207,6 @@ module _ (b : List ℕ) (i : ℕ) (h : getD b i caret ≡ caret → ⊥) (w : wr
   pub text-piece : from i ≡ from (i + pieceOf b i)
   text-piece = go (kindIs Tilde (getD b i caret)) refl
     where
-      go : (t : Bool) → kindIs Tilde (getD b i caret) ≡ t → from i ≡ from (i + when t (2 + when (eqb (getD b (i + 1) caret) 0x47) (runOf (drop (i + 2) b)) 0) 1)
+      go : (t : Bool) → kindIs Tilde (getD b i caret) ≡ t → from i ≡ from (i + when t (2 + when (eqb (getD b (i + 1) caret) 0x47) (runLength (drop (i + 2) b)) 0) 1)
       go true e = pair-piece e
       go false e = plain-piece e

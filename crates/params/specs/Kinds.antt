@@ -5,6 +5,7 @@ use lib.Dec.{eqb, leb}
 use Rattle.basis.specs.Choice.{when, _or_}
 use Rattle.params.specs.Bytes.{caret, tilde}
 
+-- the kinds themselves
 pub data ByteKind : Type 0 where
   Control : ByteKind
   Plain : ByteKind
@@ -20,14 +21,14 @@ kindOf x =
     (when (leb x 0x7D) Plain
     (when (eqb x tilde) Tilde Column)))
 
--- the number by which the table names a kind
-abbrev pub entryOf : ByteKind → ℕ
-entryOf Plain = 0
-entryOf Control = 1
-entryOf Caret = 2
-entryOf Tilde = 3
-entryOf Column = 4
+-- the digit by which the table names a kind
+abbrev pub digitOf : ByteKind → ℕ
+digitOf Plain = 0
+digitOf Control = 1
+digitOf Caret = 2
+digitOf Tilde = 3
+digitOf Column = 4
 
 -- whether a byte is of this kind
 abbrev pub kindIs : ByteKind → ℕ → Bool
-kindIs kind x = eqb (entryOf (kindOf x)) (entryOf kind)
+kindIs kind x = eqb (digitOf (kindOf x)) (digitOf kind)

@@ -9,8 +9,8 @@ use Rattle.params.specs.Bytes.{caret}
 use Rattle.params.specs.Kinds.{Tilde, Column, kindIs}
 
 -- the rows of the table: the kinds of eight bytes in each, a digit for a byte, the first in the last digit
-abbrev pub table : List ℕ
-table =
+abbrev pub kindRows : List ℕ
+kindRows =
     0x11111111 ∷ 0x11111111 ∷ 0x11111111 ∷ 0x11111111 ∷  -- 00h to 1Fh
     0x00000000 ∷ 0x00000000 ∷ 0x00000000 ∷ 0x00000000 ∷  -- 20h to 3Fh
     0x00000000 ∷ 0x00000000 ∷ 0x00000000 ∷ 0x02000000 ∷  -- 40h to 5Fh
@@ -22,13 +22,13 @@ table =
     []
 
 -- how many columns stand in front
-abbrev pub runOf : List ℕ → ℕ
-runOf [] = 0
-runOf (x ∷ xs) = when (kindIs Column x) (suc (runOf xs)) 0
+abbrev pub runLength : List ℕ → ℕ
+runLength [] = 0
+runLength (x ∷ xs) = when (kindIs Column x) (suc (runLength xs)) 0
 
 -- how many bytes the piece at a place has: a pair, with the columns that follow `~G`, or one
 abbrev pub pieceOf : List ℕ → ℕ → ℕ
 pieceOf b at =
     when (kindIs Tilde (getD b at caret))
-    (2 + when (eqb (getD b (at + 1) caret) 0x47) (runOf (drop (at + 2) b)) 0)
+    (2 + when (eqb (getD b (at + 1) caret) 0x47) (runLength (drop (at + 2) b)) 0)
     1

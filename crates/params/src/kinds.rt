@@ -2,8 +2,8 @@
 ghost use mathlib.Core.Path.{_≡_};
 ghost use Prim.Native.Nat.{_<_};
 ghost use lib.ListN.{getD};
-ghost use Rattle.params.specs.Kinds.{kindOf, entryOf};
-ghost use Rattle.params.specs.Pieces.{table};
+ghost use Rattle.params.specs.Kinds.{kindOf, digitOf};
+ghost use Rattle.params.specs.Pieces.{kindRows};
 
 // The digit of each kind in the table.
 pub(crate) const KIND_PLAIN: u8 = 0;
@@ -20,7 +20,7 @@ pub(crate) const KIND_COLUMN: u8 = 4;
 // laid out on the stack at each use, while arms stand among the archive's constants.
 fn row(n: u8) -> u32
     requires { ⌜ n < 32 ⌝ }
-    ensures { λ r. ⌜ r ≡ getD table n 0 ⌝ }
+    ensures { λ r. ⌜ r ≡ getD kindRows n 0 ⌝ }
 {
     match n {
         0 => 0x11111111, // 00h to 07h
@@ -60,7 +60,7 @@ fn row(n: u8) -> u32
 
 // The kind of a byte, asked of the table.
 pub(crate) fn kind_of(x: u8) -> u8
-    ensures { λ r. ⌜ r ≡ entryOf (kindOf x) ⌝ }
+    ensures { λ r. ⌜ r ≡ digitOf (kindOf x) ⌝ }
 {
     let entries = row(x / 8);
     let place = x % 8 * 4;

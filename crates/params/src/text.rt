@@ -12,13 +12,13 @@ ghost use mathlib.Core.Path.{_≡_};
 ghost use Prim.Native.Nat.{_+_, _<_};
 ghost use lib.ListN.{length, getD, drop};
 ghost use Rattle.params.specs.Bytes.{caret, paramOf};
-ghost use Rattle.params.specs.Kinds.{kindOf, entryOf};
+ghost use Rattle.params.specs.Kinds.{kindOf, digitOf};
 ghost use Rattle.params.specs.Text.{wrongOf, textOf};
-ghost use Rattle.params.specs.Pieces.{runOf, pieceOf};
+ghost use Rattle.params.specs.Pieces.{runLength, pieceOf};
 
 // The place after the columns that stand from a place on.
 fn run_end(body: &[u8], from: usize) -> usize
-    ensures { λ r. ⌜ r ≡ from + runOf (drop from (now (body .entry))) ⌝ }
+    ensures { λ r. ⌜ r ≡ from + runLength (drop from (now (body .entry))) ⌝ }
 {
     let mut at = from;
     while kind_of(byte_at(body, at)) == KIND_COLUMN {
@@ -30,7 +30,7 @@ fn run_end(body: &[u8], from: usize) -> usize
 // What is wrong with the byte at a place, of this kind, at the front of a piece: 24, 25, or 0 where nothing is. The byte after it counts
 // for a tilde alone, and is read only there.
 fn wrong(body: &[u8], at: usize, kind: u8) -> u8
-    requires { ⌜ (at < length (now body)) × (kind ≡ entryOf (kindOf (getD (now body) at caret))) ⌝ }
+    requires { ⌜ (at < length (now body)) × (kind ≡ digitOf (kindOf (getD (now body) at caret))) ⌝ }
     ensures { λ r. ⌜ r ≡ wrongOf 0 0 (getD (now (body .entry)) at caret) (getD (now (body .entry)) (at + 1) caret) ⌝ }
 {
     if kind == KIND_PLAIN {
@@ -47,7 +47,7 @@ fn wrong(body: &[u8], at: usize, kind: u8) -> u8
 
 // The place after the piece at a place, whose first byte is of this kind.
 fn piece_end(body: &[u8], at: usize, kind: u8) -> usize
-    requires { ⌜ (at < length (now body)) × (kind ≡ entryOf (kindOf (getD (now body) at caret))) ⌝ }
+    requires { ⌜ (at < length (now body)) × (kind ≡ digitOf (kindOf (getD (now body) at caret))) ⌝ }
     ensures { λ r. ⌜ r ≡ at + pieceOf (now (body .entry)) at ⌝ }
 {
     if kind != KIND_TILDE {

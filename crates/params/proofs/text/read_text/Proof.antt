@@ -6,11 +6,10 @@ use native.Mathlib.Omega.{arith}
 use lib.ListN.{length, getD, drop}
 use borrow.Author.Needs.{needs}
 use Rattle.params.specs.Bytes.{caret, paramOf}
-use Rattle.params.specs.Kinds.{kindOf, entryOf}
 use Rattle.params.specs.Text.{textOf}
 use Rattle.params.proofs.Places.{within-body}
 use Rattle.params.proofs.Texts.{text-end, text-bad}
-use Rattle.params.proofs.Pieces.{piece-goes, text-piece}
+use Rattle.params.proofs.Pieces.{kind-there, piece-goes, text-piece}
 use Rattle.params.proofs.text.read_text.Statement.{statement}
 use Rattle.params.proofs.text.read_text.Tie as tie
 
@@ -38,7 +37,8 @@ kind-of-requires c κs = search needs
 wrong-requires : tie.Need-wrong-requires Inv-loop μ-loop
 wrong-requires c κs =
     let o = c .before .before in
-    (within-body (o .before .before .before .args .body .now) (o .before .loop .at) (λ k. c .before .if1 .left (o .byte-at .ensures ∙ k)), c .kind-of .ensures ∙ ap (λ (y : ℕ). entryOf (kindOf y)) (o .byte-at .ensures))
+    let b = o .before .before .before .args .body .now in
+    (within-body b (o .before .loop .at) (λ k. c .before .if1 .left (o .byte-at .ensures ∙ k)), kind-there (o .byte-at .result) (getD b (o .before .loop .at) caret) (c .kind-of .result) (c .kind-of .ensures) (o .byte-at .ensures))
 
 returns-2 : tie.Need-returns-2 Inv-loop μ-loop
 returns-2 c =
@@ -54,7 +54,8 @@ piece-end-requires c κs =
     let k = c .before .before in
     let e = k .before in
     let o = e .before in
-    (within-body (o .before .before .before .args .body .now) (o .before .loop .at) (λ k. e .if1 .left (o .byte-at .ensures ∙ k)), k .kind-of .ensures ∙ ap (λ (y : ℕ). entryOf (kindOf y)) (o .byte-at .ensures))
+    let b = o .before .before .before .args .body .now in
+    (within-body b (o .before .loop .at) (λ k. e .if1 .left (o .byte-at .ensures ∙ k)), kind-there (o .byte-at .result) (getD b (o .before .loop .at) caret) (k .kind-of .result) (k .kind-of .ensures) (o .byte-at .ensures))
 
 loop-less : tie.Need-loop-less Inv-loop μ-loop
 loop-less c =

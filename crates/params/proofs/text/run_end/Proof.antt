@@ -1,20 +1,20 @@
 -- `params::text::run_end` meets its contract. The invariant: the run that is left ends where the whole ends. The measure is what is left of
 -- the body.
-use Prim.Native.Nat.{ℕ, _+_, _-_}
-use mathlib.Core.Path.{_≡_, ap, _∙_}
+use Prim.Native.Nat.{_+_, _-_}
+use mathlib.Core.Path.{_≡_}
 use native.Mathlib.Omega.{arith}
 use lib.ListN.{length, getD, drop}
 use borrow.Author.Needs.{needs}
 use Rattle.params.specs.Bytes.{caret}
-use Rattle.params.specs.Kinds.{Column, kindOf, entryOf}
-use Rattle.params.specs.Pieces.{runOf}
+use Rattle.params.specs.Kinds.{Column}
+use Rattle.params.specs.Pieces.{runLength}
 use Rattle.params.proofs.Places.{within-body}
-use Rattle.params.proofs.Pieces.{kind-yes, kind-no, not-caret, run-next, run-ends}
+use Rattle.params.proofs.Pieces.{kind-there, kind-yes, kind-no, not-caret, run-next, run-ends}
 use Rattle.params.proofs.text.run_end.Statement.{statement}
 use Rattle.params.proofs.text.run_end.Tie as tie
 
 abbrev Inv-loop : tie.InvT-loop
-Inv-loop body from at₀ at = at + runOf (drop at body) ≡ from + runOf (drop from body)
+Inv-loop body from at₀ at = at + runLength (drop at body) ≡ from + runLength (drop from body)
 
 abbrev μ-loop : tie.MeasureT-loop
 μ-loop body from at₀ at = length body - at
@@ -34,7 +34,7 @@ add-at c =
     let o = k .before in
     let b = o .before .before .before .args .body .now in
     let x = getD b (o .before .loop .at) caret in
-    let e = kind-yes Column x (k .kind-of .result) (k .kind-of .ensures ∙ ap (λ (y : ℕ). entryOf (kindOf y)) (o .byte-at .ensures)) (c .if1 .taken) in
+    let e = kind-yes Column x (k .kind-of .result) (kind-there (o .byte-at .result) x (k .kind-of .result) (k .kind-of .ensures) (o .byte-at .ensures)) (c .if1 .taken) in
     let h = within-body b (o .before .loop .at) (not-caret Column x e (λ z. omega arith)) in
     search needs
 
@@ -44,7 +44,7 @@ loop-less c =
     let o = k .before in
     let b = o .before .before .before .args .body .now in
     let x = getD b (o .before .loop .at) caret in
-    let e = kind-yes Column x (k .kind-of .result) (k .kind-of .ensures ∙ ap (λ (y : ℕ). entryOf (kindOf y)) (o .byte-at .ensures)) (c .if1 .taken) in
+    let e = kind-yes Column x (k .kind-of .result) (kind-there (o .byte-at .result) x (k .kind-of .result) (k .kind-of .ensures) (o .byte-at .ensures)) (c .if1 .taken) in
     let h = within-body b (o .before .loop .at) (not-caret Column x e (λ z. omega arith)) in
     omega arith
 
@@ -55,7 +55,7 @@ loop-again c =
     let l = o .before .loop in
     let b = o .before .before .before .args .body .now in
     let x = getD b (l .at) caret in
-    let e = kind-yes Column x (k .kind-of .result) (k .kind-of .ensures ∙ ap (λ (y : ℕ). entryOf (kindOf y)) (o .byte-at .ensures)) (c .if1 .taken) in
+    let e = kind-yes Column x (k .kind-of .result) (kind-there (o .byte-at .result) x (k .kind-of .result) (k .kind-of .ensures) (o .byte-at .ensures)) (c .if1 .taken) in
     let r = run-next b (l .at) e in
     let i = l .inv in
     omega arith
@@ -67,7 +67,7 @@ returns c =
     let l = o .before .loop in
     let b = o .before .before .before .args .body .now in
     let x = getD b (l .at) caret in
-    let e = kind-no Column x (k .kind-of .result) (k .kind-of .ensures ∙ ap (λ (y : ℕ). entryOf (kindOf y)) (o .byte-at .ensures)) (c .if1 .left) in
+    let e = kind-no Column x (k .kind-of .result) (kind-there (o .byte-at .result) x (k .kind-of .result) (k .kind-of .ensures) (o .byte-at .ensures)) (c .if1 .left) in
     let r = run-ends b (l .at) e in
     let i = l .inv in
     omega arith

@@ -1,6 +1,6 @@
 -- `params::text::wrong` meets its contract: the tests of the kind that led to each return are those of `wrongOf`, and nothing stands in
 -- front on which a column could run.
-use Prim.Native.Nat.{ℕ, _+_}
+use Prim.Native.Nat.{_+_}
 use mathlib.Core.Path.{refl, sym, ap, _∙_}
 use mathlib.Core.Bool.{Bool}
 use lib.ListN.{getD}

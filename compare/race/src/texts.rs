@@ -1,0 +1,24 @@
+//! Bytes in a text, once in each race: each of the 256 after every front and before every back of two short lists.
+//! Answers to 01, "The program" (L4 to L6), and to the numbers 24 and 25.
+
+use crate::case::{Case, Function};
+use crate::racer::Racer;
+
+/// What a byte can stand after: nothing, a character, `~G`, a run of columns, what ends a run, or a tilde by itself.
+const FRONTS: [&[u8]; 9] = [b"", b"A", b"~G", b"~G\x80", b"~G\xFF", b"~G\x80A", b"~D", b"~", b"~G~D"];
+
+/// What a byte can stand before: nothing, a character, a letter that a tilde takes, columns, a pair, or a command.
+const BACKS: [&[u8]; 8] = [b"", b"A", b"G", b"\x80", b"\xFF", b"~B", b"^S", b"D\x80"];
+
+/// Each byte in the text of a lone `S`, judged, which tells its kind and the place of a wrong one.
+pub fn texts(racer: &mut Racer) -> Option<()> {
+    for byte in 0..=u8::MAX {
+        for front in FRONTS {
+            for back in BACKS {
+                let body = [b"^S", front, &[byte], back].concat();
+                racer.call(Case::new(Function::Judge, &[]).bytes(body))?;
+            }
+        }
+    }
+    Some(())
+}

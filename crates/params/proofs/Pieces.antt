@@ -35,7 +35,7 @@ or-cases true b e f g = f refl
 or-cases false b e f g = g e
 
 -- a byte of one kind: what the test for any kind says of it, the test by the kind's digit, and that it is no caret unless that is its kind
-pub kind-known : (j k : ByteKind) (x : ℕ) → kindIs j x ≡ true → kindIs k x ≡ eqb (digitOf j) (digitOf k)
+kind-known : (j k : ByteKind) (x : ℕ) → kindIs j x ≡ true → kindIs k x ≡ eqb (digitOf j) (digitOf k)
 kind-known j k x e = ap (λ (n : ℕ). eqb n (digitOf k)) (eqb-true (digitOf (kindOf x)) (digitOf j) e)
 
 pub kind-there : (y z n : ℕ) → n ≡ digitOf (kindOf y) → y ≡ z → n ≡ digitOf (kindOf z)
@@ -47,7 +47,7 @@ kind-yes k x n e h = eq-eqb (digitOf (kindOf x)) (digitOf k) (sym e ∙ h)
 pub kind-no : (k : ByteKind) (x n : ℕ) → n ≡ digitOf (kindOf x) → (n ≡ digitOf k → ⊥) → kindIs k x ≡ false
 kind-no k x n e h = ne-eqb (digitOf (kindOf x)) (digitOf k) (λ z. h (e ∙ z))
 
-pub not-caret : (k : ByteKind) (x : ℕ) → kindIs k x ≡ true → (2 ≡ digitOf k → ⊥) → x ≡ caret → ⊥
+not-caret : (k : ByteKind) (x : ℕ) → kindIs k x ≡ true → (2 ≡ digitOf k → ⊥) → x ≡ caret → ⊥
 not-caret k x e n z = n (sym (ap (λ (y : ℕ). digitOf (kindOf y)) z) ∙ eqb-true (digitOf (kindOf x)) (digitOf k) e)
 
 letter-plain : (l : ℕ) → isLetter l ≡ true → kindIs Plain l ≡ true

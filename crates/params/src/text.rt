@@ -21,10 +21,16 @@ fn run_end(body: &[u8], from: usize) -> usize
     ensures { λ r. ⌜ r ≡ from + runLength (drop from (now (body .entry))) ⌝ }
 {
     let mut at = from;
-    while kind_of(byte_at(body, at)) == KIND_COLUMN {
+    loop {
+        let x = byte_at(body, at);
+        if x == CARET {
+            return at;
+        }
+        if kind_of(x) != KIND_COLUMN {
+            return at;
+        }
         at += 1;
     }
-    at
 }
 
 // What is wrong with the byte at a place, of this kind, at the front of a piece: 24, 25, or 0 where nothing is. The byte after it counts

@@ -37,7 +37,7 @@ const FORECASTS: &[Function] = &[Forecast];
 const REPEATS: &[Function] = &[Repeat];
 
 /// What makes an image unsound by itself, then the order of refusals, then what changes the room or must leave it.
-/// Behind them the bytes of a text, a forecast's refusals, what it leaves, and the edges of what the repeater is told.
+/// After them the bytes of a text, a forecast's refusals, what it leaves, and the edges of what the repeater is told.
 #[rustfmt::skip]
 const GROUNDS: [Ground; 54] = [
     ground("AUX byte over 1, all else sound", ALL, |case, _| faulty(case, right_aux)),
@@ -82,7 +82,7 @@ const GROUNDS: [Ground; 54] = [
     ground("a column right after another, a program", JUDGES,
         |case, after| is_no(after, 0) && case.bytes.windows(2).any(|run| is_column(run[0]) && is_column(run[1]))),
     ground("a column after neither (24)", JUDGES, |case, after| wrong_in_text(case, after, 24, is_column)),
-    ground("a control byte in a text (24)", JUDGES, |case, after| wrong_in_text(case, after, 24, |byte| byte < 0x20)),
+    ground("a byte below 20h in a text (24)", JUDGES, |case, after| wrong_in_text(case, after, 24, |byte| byte < 0x20)),
     ground("7Fh in a text (24)", JUDGES, |case, after| wrong_in_text(case, after, 24, |byte| byte == 0x7F)),
     ground("a tilde before none of its letters (25)", JUDGES,
         |case, after| wrong_in_text(case, after, 25, |byte| byte == b'~')),

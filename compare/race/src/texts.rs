@@ -4,13 +4,14 @@
 use crate::case::{Case, Function};
 use crate::racer::Racer;
 
-/// What a byte can stand after: nothing, a character, `~G`, a run of columns, what ends a run, or a tilde by itself.
+/// What a byte can stand after: nothing, a character, `~G`, columns, a character or pair after which no column may be, or a tilde alone.
 const FRONTS: [&[u8]; 9] = [b"", b"A", b"~G", b"~G\x80", b"~G\xFF", b"~G\x80A", b"~D", b"~", b"~G~D"];
 
-/// What a byte can stand before: nothing, a character, a letter that a tilde takes, columns, a pair, or a command.
+/// What a byte can stand before: nothing, a character, a letter that a tilde takes, columns, a pair, a command, or a letter and a column,
+/// with which a tilde makes a pair that ends a run.
 const BACKS: [&[u8]; 8] = [b"", b"A", b"G", b"\x80", b"\xFF", b"~B", b"^S", b"D\x80"];
 
-/// Each byte in the text of a lone `S`, judged, which tells its kind and the place of a wrong one.
+/// Each byte among its neighbours after `^S`, judged: its kind decides the answer and the place.
 pub fn texts(racer: &mut Racer) -> Option<()> {
     for byte in 0..=u8::MAX {
         for front in FRONTS {

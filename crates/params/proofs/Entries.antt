@@ -11,15 +11,15 @@ use lib.Dec.{eqb}
 use lib.ListN.{getD}
 use Rattle.basis.specs.Choice.{_and_}
 use Rattle.basis.proofs.Choices.{and-parts}
-use Rattle.params.specs.Kinds.{kindOf, digitOf}
-use Rattle.params.specs.Pieces.{kindRows}
+use Rattle.params.specs.Kinds.{kindOf, kindDigit}
+use Rattle.params.specs.KindTable.{kindRows}
 
--- a test that holds at every number below n
-every : (ℕ → Bool) → ℕ → Bool
+-- whether a test holds at every number below n
+unfoldable pub every : (ℕ → Bool) → ℕ → Bool
 every f zero = true
 every f (suc n) = f n and every f n
 
-every-at : (f : ℕ → Bool) (n : ℕ) → every f n ≡ true → (k : ℕ) → k < n → f k ≡ true
+pub every-at : (f : ℕ → Bool) (n : ℕ) → every f n ≡ true → (k : ℕ) → k < n → f k ≡ true
 unfolding every
 every-at f zero e k h = absurd (omega arith)
 every-at f (suc n) e k h =
@@ -30,26 +30,26 @@ every-at f (suc n) e k h =
 abbrev pub entry : ℕ → ℕ
 entry x = getD kindRows (x / 8) 0 / 2 ^ (x % 8 * 4) % 16
 
--- that it is the digit of the byte's kind, tested, and the test computed at every byte
+-- whether the entry is the digit of the byte's kind, computed at every byte
 abbrev right : ℕ → Bool
-right x = eqb (entry x) (digitOf (kindOf x))
+right x = eqb (entry x) (kindDigit (kindOf x))
 
 all-right : every right 256 ≡ true
 unfolding every
 all-right = refl
 
 -- the entry of each byte is the digit of its kind
-pub entry-is : (x : ℕ) → x < 256 → entry x ≡ digitOf (kindOf x)
-entry-is x h = eqb-true (entry x) (digitOf (kindOf x)) (every-at right 256 all-right x h)
+pub entry-is : (x : ℕ) → x < 256 → entry x ≡ kindDigit (kindOf x)
+entry-is x h = eqb-true (entry x) (kindDigit (kindOf x)) (every-at right 256 all-right x h)
 
 -- n is none of the numbers below k
-abbrev None : ℕ → ℕ → Type 0
-None zero n = Unit {0}
-None (suc k) n = None k n × (n ≡ k → ⊥)
+abbrev NotBelow : ℕ → ℕ → Type 0
+NotBelow zero n = Unit {0}
+NotBelow (suc k) n = NotBelow k n × (n ≡ k → ⊥)
 
-pub none-below : (k n : ℕ) → None k n → k ≤ n
-none-below zero n r = omega arith
-none-below (suc k) n r = let h = none-below k n (r .0) in let g = r .1 in omega (arith, g)
+pub not-below : (k n : ℕ) → NotBelow k n → k ≤ n
+not-below zero n r = omega arith
+not-below (suc k) n r = let h = not-below k n (r .0) in let g = r .1 in omega (arith, g)
 
 pub last-row : (n : ℕ) → 31 ≤ n → n < 32 → n ≡ 31
 last-row n g h = omega arith

@@ -1,4 +1,5 @@
 pub mod Entries
+pub mod Same
 pub mod Places
 pub mod Texts
 pub mod Pieces

@@ -1,4 +1,4 @@
--- A text passed in pieces: what stands in front of a piece does not count, so behind each piece the text reads as if it began there.
+-- A text passed in pieces: what stands in front of a piece does not count, so after each piece the text reads as if it began there.
 use Prim.Native.Nat.{ℕ, suc, _+_, _<_, _≤_}
 use mathlib.Core.Path.{_≡_, refl, sym, ap, _∙_}
 use mathlib.Core.Bool.{Bool, true, false}
@@ -14,7 +14,7 @@ use Rattle.basis.specs.Choice.{when, _and_, _or_}
 use Rattle.basis.proofs.Choices.{when-true, when-false}
 use Rattle.basis.proofs.Lists.{drop-next}
 use Rattle.params.specs.Bytes.{caret, paramOf, firstOf}
-use Rattle.params.specs.Kinds.{ByteKind, Plain, Tilde, Column, kindOf, digitOf, kindIs}
+use Rattle.params.specs.Kinds.{ByteKind, Plain, Caret, Tilde, Column, kindOf, kindDigit, kindIs}
 use Rattle.params.specs.Text.{isLetter, mayRun, wrongOf, textOf}
 use Rattle.params.specs.Pieces.{runLength, pieceOf}
 use Rattle.params.specs.declared.Parameter.{Parameter}
@@ -34,21 +34,22 @@ or-cases : {C : Type 0} (a b : Bool) → a or b ≡ true → (a ≡ true → C) 
 or-cases true b e f g = f refl
 or-cases false b e f g = g e
 
--- a byte of one kind: what the test for any kind says of it, the test by the kind's digit, and that it is no caret unless that is its kind
-kind-known : (j k : ByteKind) (x : ℕ) → kindIs j x ≡ true → kindIs k x ≡ eqb (digitOf j) (digitOf k)
-kind-known j k x e = ap (λ (n : ℕ). eqb n (digitOf k)) (eqb-true (digitOf (kindOf x)) (digitOf j) e)
+-- what the test for any kind says of a byte of one kind; the kind of a byte that is known by another name; the test for a kind by its digit;
+-- a byte of another kind is no caret
+kind-known : (j k : ByteKind) (x : ℕ) → kindIs j x ≡ true → kindIs k x ≡ eqb (kindDigit j) (kindDigit k)
+kind-known j k x e = ap (λ (n : ℕ). eqb n (kindDigit k)) (eqb-true (kindDigit (kindOf x)) (kindDigit j) e)
 
-pub kind-there : (y z n : ℕ) → n ≡ digitOf (kindOf y) → y ≡ z → n ≡ digitOf (kindOf z)
-kind-there y z n e h = e ∙ ap (λ (x : ℕ). digitOf (kindOf x)) h
+pub kind-there : (y z n : ℕ) → n ≡ kindDigit (kindOf y) → y ≡ z → n ≡ kindDigit (kindOf z)
+kind-there y z n e h = e ∙ ap (λ (x : ℕ). kindDigit (kindOf x)) h
 
-pub kind-yes : (k : ByteKind) (x n : ℕ) → n ≡ digitOf (kindOf x) → n ≡ digitOf k → kindIs k x ≡ true
-kind-yes k x n e h = eq-eqb (digitOf (kindOf x)) (digitOf k) (sym e ∙ h)
+pub kind-yes : (k : ByteKind) (x n : ℕ) → n ≡ kindDigit (kindOf x) → n ≡ kindDigit k → kindIs k x ≡ true
+kind-yes k x n e h = eq-eqb (kindDigit (kindOf x)) (kindDigit k) (sym e ∙ h)
 
-pub kind-no : (k : ByteKind) (x n : ℕ) → n ≡ digitOf (kindOf x) → (n ≡ digitOf k → ⊥) → kindIs k x ≡ false
-kind-no k x n e h = ne-eqb (digitOf (kindOf x)) (digitOf k) (λ z. h (e ∙ z))
+pub kind-no : (k : ByteKind) (x n : ℕ) → n ≡ kindDigit (kindOf x) → (n ≡ kindDigit k → ⊥) → kindIs k x ≡ false
+kind-no k x n e h = ne-eqb (kindDigit (kindOf x)) (kindDigit k) (λ z. h (e ∙ z))
 
-not-caret : (k : ByteKind) (x : ℕ) → kindIs k x ≡ true → (2 ≡ digitOf k → ⊥) → x ≡ caret → ⊥
-not-caret k x e n z = n (sym (ap (λ (y : ℕ). digitOf (kindOf y)) z) ∙ eqb-true (digitOf (kindOf x)) (digitOf k) e)
+not-caret : (k : ByteKind) (x : ℕ) → kindIs k x ≡ true → (kindDigit Caret ≡ kindDigit k → ⊥) → x ≡ caret → ⊥
+not-caret k x e n z = n (sym (ap (λ (y : ℕ). kindDigit (kindOf y)) z) ∙ eqb-true (kindDigit (kindOf x)) (kindDigit k) e)
 
 letter-plain : (l : ℕ) → isLetter l ≡ true → kindIs Plain l ≡ true
 letter-plain l e =
@@ -81,7 +82,8 @@ module _ (q p x n : ℕ) where
   same-fault : (s r : ℕ) → kindIs Column x and mayRun q p ≡ kindIs Column x and mayRun s r → wrongOf q p x n ≡ wrongOf s r x n
   same-fault s r e = ap (λ (t : Bool). when (kindIs Plain x) 0 (when (kindIs Tilde x) (when (isLetter n) 0 25) (when t 0 24))) e
 
--- of two bytes in front the first counts only where it is a tilde, and both only where a column follows that may run on
+-- of two bytes in front the first counts only where it is a tilde, and both only where the last is a tilde or a column follows that may
+-- run on
 last-alone : (p x i : ℕ) (ds : List ℕ) → kindIs Tilde p ≡ false → textOf p x i ds ≡ textOf 0 x i ds
 last-alone p x i [] e = refl
 last-alone p x i (y ∷ ys) e =
@@ -95,8 +97,8 @@ front-forgotten q p i (y ∷ ys) e t =
     ap (λ (w : ℕ). when (eqb w 0) (textOf p y (i + 1) ys) (Wrong w i)) f
     ∙ ap (λ (r : Parameter). when (eqb (wrongOf 0 0 y (firstOf ys)) 0) r (Wrong (wrongOf 0 0 y (firstOf ys)) i)) (last-alone p y (i + 1) ys t)
 
-shut : (q p i : ℕ) (ds : List ℕ) → mayRun q p ≡ false → kindIs Tilde p ≡ false → textOf q p i ds ≡ textOf 0 0 i ds
-shut q p i ds m t = front-forgotten q p i ds (ap (λ (u : Bool). kindIs Column (firstOf ds) and u) m ∙ and-false (kindIs Column (firstOf ds))) t
+run-closed : (q p i : ℕ) (ds : List ℕ) → mayRun q p ≡ false → kindIs Tilde p ≡ false → textOf q p i ds ≡ textOf 0 0 i ds
+run-closed q p i ds m t = front-forgotten q p i ds (ap (λ (u : Bool). kindIs Column (firstOf ds) and u) m ∙ and-false (kindIs Column (firstOf ds))) t
 
 -- columns that may run on are passed, all of them
 run-text : (q p i : ℕ) (ds : List ℕ) → mayRun q p ≡ true → kindIs Tilde p ≡ false → textOf q p i (paramOf ds) ≡ textOf 0 0 (i + runLength ds) (paramOf (drop (runLength ds) ds))
@@ -137,7 +139,7 @@ module _ (b : List ℕ) (i : ℕ) where
   pub piece-pair : (g : Bool) → kindIs Tilde (getD b i caret) ≡ true → eqb (getD b (i + 1) caret) 0x47 ≡ g → pieceOf b i ≡ 2 + when g (runLength (drop (i + 2) b)) 0
   piece-pair g t e = when-true (kindIs Tilde (getD b i caret)) _ _ t ∙ ap (λ (u : Bool). 2 + when u (runLength (drop (i + 2) b)) 0) e
 
--- the place behind a piece lies further on
+-- the place after a piece lies further on
 pub piece-goes : (b : List ℕ) (i : ℕ) → i < i + pieceOf b i
 piece-goes b i = go (kindIs Tilde (getD b i caret))
   where
@@ -145,7 +147,7 @@ piece-goes b i = go (kindIs Tilde (getD b i caret))
     go true = omega arith
     go false = omega arith
 
--- one piece more of a text: x at its front, a byte that is no caret and nothing wrong
+-- one piece more of a text, which begins with a byte that is no caret and nothing wrong
 module _ (b : List ℕ) (i : ℕ) (h : getD b i caret ≡ caret → ⊥) (w : wrongOf 0 0 (getD b i caret) (getD b (i + 1) caret) ≡ 0) where
   abbrev from : ℕ → Parameter
   from n = textOf 0 0 n (paramOf (drop n b))
@@ -163,7 +165,7 @@ module _ (b : List ℕ) (i : ℕ) (h : getD b i caret ≡ caret → ⊥) (w : wr
   plain-piece : kindIs Tilde (getD b i caret) ≡ false → from i ≡ from (i + 1)
   plain-piece t =
       let x = getD b i caret in
-      one-more ∙ shut 0 x (i + 1) (paramOf (drop (i + 1) b)) (ap (λ (u : Bool). u or false) (kind-known Plain Column x (plain t))) t
+      one-more ∙ run-closed 0 x (i + 1) (paramOf (drop (i + 1) b)) (ap (λ (u : Bool). u or false) (kind-known Plain Column x (plain t))) t
 
   letter : kindIs Tilde (getD b i caret) ≡ true → isLetter (getD b (i + 1) caret) ≡ true
   letter t = go (isLetter (getD b (i + 1) caret)) (sym (wrong-tilde 0 0 (getD b i caret) (getD b (i + 1) caret) t) ∙ w)
@@ -202,7 +204,7 @@ module _ (b : List ℕ) (i : ℕ) (h : getD b i caret ≡ caret → ⊥) (w : wr
           let e = letter-plain l (letter t) in
           let m : mayRun x l ≡ false = ap (λ (u : Bool). kindIs Column l or (u and eqb l 0x47)) t ∙ ap (λ (u : Bool). kindIs Column l or u) g ∙ ap (λ (u : Bool). u or false) (kind-known Plain Column l e) in
           let place : i + 2 ≡ i + (2 + 0) = omega arith in
-          shut x l (i + 2) (paramOf (drop (i + 2) b)) m (kind-known Plain Tilde l e) ∙ ap from place
+          run-closed x l (i + 2) (paramOf (drop (i + 2) b)) m (kind-known Plain Tilde l e) ∙ ap from place
 
   pub text-piece : from i ≡ from (i + pieceOf b i)
   text-piece = go (kindIs Tilde (getD b i caret)) refl

@@ -22,13 +22,13 @@ kindOf x =
     (when (eqb x tilde) Tilde Column)))
 
 -- the digit by which the table names a kind
-abbrev pub digitOf : ByteKind → ℕ
-digitOf Plain = 0
-digitOf Control = 1
-digitOf Caret = 2
-digitOf Tilde = 3
-digitOf Column = 4
+abbrev pub kindDigit : ByteKind → ℕ
+kindDigit Plain = 0
+kindDigit Control = 1
+kindDigit Caret = 2
+kindDigit Tilde = 3
+kindDigit Column = 4
 
 -- whether a byte is of this kind
 abbrev pub kindIs : ByteKind → ℕ → Bool
-kindIs kind x = eqb (digitOf (kindOf x)) (digitOf kind)
+kindIs kind x = eqb (kindDigit (kindOf x)) (kindDigit kind)

@@ -18,14 +18,14 @@ isLetter x = eqb x 0x42 or eqb x 0x62 or eqb x 0x43 or eqb x 0x63 or eqb x 0x44 
 abbrev pub mayRun : ℕ → ℕ → Bool
 mayRun before last = kindIs Column last or (kindIs Tilde before and eqb last 0x47)
 
--- what is wrong with the byte x, the bytes before and last in front of it and the byte behind: 0 where nothing is
+-- what is wrong with the byte x, the bytes before and last in front of it and the byte next after it: 0 where nothing is
 abbrev pub wrongOf : ℕ → ℕ → ℕ → ℕ → ℕ
-wrongOf before last x behind =
+wrongOf before last x next =
     when (kindIs Plain x) 0
-    (when (kindIs Tilde x) (when (isLetter behind) 0 25)
+    (when (kindIs Tilde x) (when (isLetter next) 0 25)
     (when (kindIs Column x and mayRun before last) 0 24))
 
--- a text whose bytes stand from `at` on: the place behind it, or the first byte at fault
+-- a text whose bytes stand from `at` on: the place after it, or the first byte at fault
 abbrev pub textOf : (before last at : ℕ) → List ℕ → Parameter
 textOf before last at [] = Right at 0
 textOf before last at (x ∷ xs) =

@@ -2,10 +2,10 @@
 ghost use mathlib.Core.Path.{_≡_};
 ghost use Prim.Native.Nat.{_<_};
 ghost use lib.ListN.{getD};
-ghost use Rattle.params.specs.Kinds.{kindOf, digitOf};
-ghost use Rattle.params.specs.Pieces.{kindRows};
+ghost use Rattle.params.specs.Kinds.{kindOf, kindDigit};
+ghost use Rattle.params.specs.KindTable.{kindRows};
 
-// The digit of each kind in the table.
+// The digit of each kind in the table. No code asks for control or caret: they are named for a reader of the rows.
 pub(crate) const KIND_PLAIN: u8 = 0;
 
 pub(crate) const KIND_CONTROL: u8 = 1;
@@ -17,7 +17,7 @@ pub(crate) const KIND_TILDE: u8 = 3;
 pub(crate) const KIND_COLUMN: u8 = 4;
 
 // A row of the table: the kinds of eight bytes, the first in the last digit. The rows are arms and not an array, because an array is
-// laid out on the stack at each use, while arms stand among the archive's constants.
+// laid out on the stack at each use, while the compiler makes one constant of the arms.
 fn row(n: u8) -> u32
     requires { ⌜ n < 32 ⌝ }
     ensures { λ r. ⌜ r ≡ getD kindRows n 0 ⌝ }
@@ -60,7 +60,7 @@ fn row(n: u8) -> u32
 
 // The kind of a byte, asked of the table.
 pub(crate) fn kind_of(x: u8) -> u8
-    ensures { λ r. ⌜ r ≡ digitOf (kindOf x) ⌝ }
+    ensures { λ r. ⌜ r ≡ kindDigit (kindOf x) ⌝ }
 {
     let entries = row(x / 8);
     let place = x % 8 * 4;

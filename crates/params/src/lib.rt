@@ -1,10 +1,10 @@
-// What follows the letters of a command (L3): a text or a number, read from a place of a body. No call has a
-// `requires`; each answers for any bytes and any place.
+// What follows the letters of a command (L3): a text or a number, read from a place of a body. No public call
+// has a `requires`; each answers for any bytes and any place.
 //   bytes      the byte at a place, and the letters of a pair           L2, L5
 //   kinds      the table of byte kinds                                  L4
 //   text       a text's bytes up to its end                             L2, L4 to L6, N24, N25
 //   number     one reader for every number                              L2, L8, N23
-// The definitions that the contracts cite stand in specs/ under the same names.
+// The definitions that the contracts cite stand in specs/.
 mod bytes;
 mod kinds;
 mod number;

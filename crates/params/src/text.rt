@@ -1,5 +1,5 @@
 // A text read to its end (L2, L4 to L6), or refused with N24 or N25. It is passed piece by piece: a plain byte, or a pair with the
-// columns that follow `~G`. So a column at the front of a piece follows neither `~G` nor a column.
+// columns that follow `~G`. So a column where a piece begins follows neither `~G` nor a column.
 use crate::Parameter;
 use crate::bytes::CARET;
 use crate::bytes::byte_at;
@@ -12,11 +12,11 @@ ghost use mathlib.Core.Path.{_≡_};
 ghost use Prim.Native.Nat.{_+_, _<_};
 ghost use lib.ListN.{length, getD, drop};
 ghost use Rattle.params.specs.Bytes.{caret, paramOf};
-ghost use Rattle.params.specs.Kinds.{kindOf, digitOf};
+ghost use Rattle.params.specs.Kinds.{kindOf, kindDigit};
 ghost use Rattle.params.specs.Text.{wrongOf, textOf};
 ghost use Rattle.params.specs.Pieces.{runLength, pieceOf};
 
-// The place after the columns that stand from a place on.
+// The place after the columns that stand from a place on. The end is compared and not asked of the table, which costs less.
 fn run_end(body: &[u8], from: usize) -> usize
     ensures { λ r. ⌜ r ≡ from + runLength (drop from (now (body .entry))) ⌝ }
 {
@@ -33,10 +33,10 @@ fn run_end(body: &[u8], from: usize) -> usize
     }
 }
 
-// What is wrong with the byte at a place, of this kind, at the front of a piece: 24, 25, or 0 where nothing is. The byte after it counts
+// What is wrong with the byte at a place, of this kind, where a piece begins: 24, 25, or 0 where nothing is. The byte after it counts
 // for a tilde alone, and is read only there.
 fn wrong(body: &[u8], at: usize, kind: u8) -> u8
-    requires { ⌜ (at < length (now body)) × (kind ≡ digitOf (kindOf (getD (now body) at caret))) ⌝ }
+    requires { ⌜ (at < length (now body)) × (kind ≡ kindDigit (kindOf (getD (now body) at caret))) ⌝ }
     ensures { λ r. ⌜ r ≡ wrongOf 0 0 (getD (now (body .entry)) at caret) (getD (now (body .entry)) (at + 1) caret) ⌝ }
 {
     if kind == KIND_PLAIN {
@@ -53,7 +53,7 @@ fn wrong(body: &[u8], at: usize, kind: u8) -> u8
 
 // The place after the piece at a place, whose first byte is of this kind.
 fn piece_end(body: &[u8], at: usize, kind: u8) -> usize
-    requires { ⌜ (at < length (now body)) × (kind ≡ digitOf (kindOf (getD (now body) at caret))) ⌝ }
+    requires { ⌜ (at < length (now body)) × (kind ≡ kindDigit (kindOf (getD (now body) at caret))) ⌝ }
     ensures { λ r. ⌜ r ≡ at + pieceOf (now (body .entry)) at ⌝ }
 {
     if kind != KIND_TILDE {

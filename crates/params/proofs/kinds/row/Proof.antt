@@ -3,8 +3,8 @@ use borrow.Author.Needs.{needs}
 use Prim.Native.Nat.{ℕ}
 use mathlib.Core.Path.{_≡_, sym, ap}
 use lib.ListN.{getD}
-use Rattle.params.specs.Pieces.{kindRows}
-use Rattle.params.proofs.Entries.{none-below, last-row}
+use Rattle.params.specs.KindTable.{kindRows}
+use Rattle.params.proofs.Entries.{not-below, last-row}
 use Rattle.params.proofs.kinds.row.Statement.{statement}
 use Rattle.params.proofs.kinds.row.Tie as tie
 
@@ -102,7 +102,7 @@ returns-31 : tie.Need-returns-31
 returns-31 c = search needs
 
 returns-32 : tie.Need-returns-32
-returns-32 c = let e : c .before .args .n ≡ 31 = let g = none-below 31 (c .before .args .n) (c .match .rest) in last-row (c .before .args .n) g (c .before .pre) in sym (ap (λ (n : ℕ). getD kindRows n 0) e)
+returns-32 c = let e : c .before .args .n ≡ 31 = let g = not-below 31 (c .before .args .n) (c .match .rest) in last-row (c .before .args .n) g (c .before .pre) in sym (ap (λ (n : ℕ). getD kindRows n 0) e)
 
 pub row-spec : {M : Type 1} → statement M
 row-spec =

@@ -1,4 +1,4 @@
-/* Yurodekapi for C, version 1.0: the calls of the message unit over numbers and lent bytes.
+/* Yurodekapi for C, version 1.1: the calls of the message unit over numbers and lent bytes.
  *
  * Language. C99 or later, or C++11 or later. Link with target/staticlib/libcabi.a, which `rt staticlib cabi` writes.
  *
@@ -31,8 +31,8 @@
 
 /* The version of this header. yd_version has the archive's. */
 #define YD_VERSION_MAJOR 1
-#define YD_VERSION_MINOR 0
-#define YD_VERSION_PATCH 2
+#define YD_VERSION_MINOR 1
+#define YD_VERSION_PATCH 0
 #define YD_VERSION (YD_VERSION_MAJOR * 65536u + YD_VERSION_MINOR * 256u + YD_VERSION_PATCH)
 
 /* A result that must be used, and pointers that must not be null, where the compiler knows how to say it. */
@@ -343,7 +343,8 @@ struct yd_step_answer {
     uint32_t number;      /* its number as written */
     uint32_t text_place;  /* its text's place in the body */
     uint32_t text_length; /* and length there */
-    uint32_t column;      /* start column of a text that is shown, 0 of one that scrolls */
+    uint32_t column;      /* start column of a text that is shown, 0 of one that scrolls; up to 3 blank columns of a shown text's last
+                           * character may lie to the right of the sign's last column, 95 */
     uint32_t scans;
     uint32_t ms; /* milliseconds */
 };

@@ -129,8 +129,8 @@ static void results(void)
     CHECK(yd_value(0x123415u), 0x1234);
     CHECK(yd_value(0xFFFFFF00u), 0xFFFFFF);
     CHECK(yd_word(words, 1), 0xF2345678u);
-    CHECK(YD_VERSION, 65538);
-    CHECK(yd_version(), yes(65538));
+    CHECK(YD_VERSION, 65792);
+    CHECK(yd_version(), yes(65792));
     CHECK(yd_value(yd_version()), YD_VERSION);
 }
 
@@ -402,6 +402,10 @@ static void read_reply(void)
 #define THIRTY_NINE_S TEN_S TEN_S TEN_S "^S^S^S^S^S^S^S^S^S"
 #define SIXTEEN "ABCDEFGHIJKLMNOP"
 
+/* Texts of 97 columns of which 95 can be lit, and of 100 of which 97 can. */
+#define EDGE "ABCDEFGHIJKLMNO~dP"
+#define WIDE "~dABCDEFGHIJKLM~bN"
+
 /* A body that is no program: its number for no, the place, and the bytes. */
 struct refused {
     uint32_t number;
@@ -527,6 +531,9 @@ static const struct accepted accepteds[] = {
     { "^II" SIXTEEN "Q", { 0, 1, 198, 4400, 4, 1 } },
     { "^IA" SIXTEEN "Q", { 0, 1, 198, 4400, 4, 1 } },
     { "^II" SIXTEEN "~G\x80", { 0, 1, 193, 4289, 4, 1 } },
+    { "^IA" EDGE, { 0, 1, 7, 156, 4, 1 } },
+    { "^S" EDGE, { 0, 1, 193, 4289, 4, 1 } },
+    { "^IB" WIDE, { 0, 1, 196, 4356, 4, 1 } },
     { "^SHI~B", { 0, 1, 108, 2400, 4, 1 } },
     { "^S~BA", { 0, 1, 104, 2312, 4, 1 } },
     { "^S~G\x80\xFF", { 0, 1, 98, 2178, 4, 1 } },
@@ -1116,6 +1123,31 @@ static void step_others(void)
     steps(__LINE__, image, &odd);
 }
 
+/* The blank columns of what is shown last count neither for fitting nor for the start column, but a scroll takes them too. */
+static void step_edges(void)
+{
+    static const struct {
+        const char *body;
+        struct yd_step_answer answer;
+    } rows[] = {
+        { "^IA" EDGE, { YD_KIND_IA, 0, 3, 18, 0, 7, 156 } },
+        { "^S" EDGE, { YD_KIND_S, 0, 2, 18, 0, 193, 4289 } },
+        { "^IB" WIDE, { YD_KIND_S, 0, 3, 18, 0, 196, 4356 } },
+        { "^II~bABCDEFGHIJK", { YD_KIND_II, 0, 3, 13, 0, 0, 0 } },
+        { "^IIA~b", { YD_KIND_II, 0, 3, 3, 45, 0, 0 } },
+        { "^II~bA~D", { YD_KIND_II, 0, 3, 5, 45, 0, 0 } },
+        { "^II~CA~G", { YD_KIND_II, 0, 3, 5, 46, 0, 0 } },
+        { "^IIA~G\x80", { YD_KIND_II, 0, 3, 4, 44, 0, 0 } },
+        { "^II~G\x80 ", { YD_KIND_II, 0, 3, 4, 45, 0, 0 } },
+    };
+    uint8_t image[YD_IMAGE_SIZE];
+    size_t i;
+    for (i = 0; i < sizeof rows / sizeof rows[0]; i++) {
+        running(image, rows[i].body);
+        steps(__LINE__, image, &rows[i].answer);
+    }
+}
+
 /* Forced brightness: above 31 acts as 31; 0 and 1 end it. */
 static void step_brightness(void)
 {
@@ -1286,6 +1318,7 @@ int main(void)
     step_kinds();
     step_loop();
     step_others();
+    step_edges();
     step_brightness();
     step_short();
     step_as_forecast();

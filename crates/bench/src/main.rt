@@ -26,6 +26,11 @@ fn main() {
     show::first(b"^IIHI");
     show::first(b"^IIabcdefghijklmnop");
     show::first(b"^IIabcdefghijklmnopq");
+    show::first(b"^IAAAAAAAAAAAAAAAA~dA");
+    show::first(b"^IIAAAAAAAAAAAAAAA~dA");
+    show::first(b"^II~bAAAAAAAAAAA");
+    show::first(b"^IIA~b");
+    show::first(b"^SAAAAAAAAAAAAAAA~dA");
     foretell::forecast(
         b"^L99^S^S^S^S^S^S^S^S^S^S^S^S^S^S^S^S^S^S^S^S^S^S^S^S^S^S^S^S^S^S^S^S^S^S^S^S^S^S^S^E",
     );
@@ -34,6 +39,7 @@ fn main() {
     foretell::forecast(b"^SHI");
     foretell::forecast(b"^S");
     foretell::forecast(b"^IAHI");
+    foretell::forecast(b"^IAAAAAAAAAAAAAAAA~dA");
     foretell::forecast(b"^=6^P1^SA");
     foretell::forecast(b"^L2^SHI^P20^E");
     foretell::forecast(b"^L2^W1^F");

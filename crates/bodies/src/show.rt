@@ -67,13 +67,14 @@ pub(crate) fn judged(body: &[u8]) {
     io::write_all(1, b"\n");
 }
 
-// The width of a text, and where it starts.
+// The widths of a text, and where it starts.
 pub(crate) fn measured(text: &[u8]) {
     bytes(text);
-    let width = measure::width(text);
-    field(b": width ", width);
-    if measure::fits(width) {
-        field(b" column ", measure::start_column(width));
+    let widths = measure::measure(text);
+    field(b": whole ", widths.whole);
+    field(b" lit ", widths.lit);
+    if measure::fits(widths) {
+        field(b" column ", measure::start_column(widths));
     } else {
         io::write_all(1, b" scrolls");
     }

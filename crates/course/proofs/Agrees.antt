@@ -45,7 +45,7 @@ ones-care c σ τ h = refl
 
 pub scans-care : Cares scans
 unfolding answerOf
-scans-care (act a) σ τ h = ap (scansOf (doingOf (a .kind)) (a .width)) (h .1)
+scans-care (act a) σ τ h = ap (scansOf (doingOf (a .kind)) (a .widths)) (h .1)
 scans-care (rep n z) σ τ h = refl
 scans-care close σ τ h = refl
 scans-care forever σ τ h = refl
@@ -54,8 +54,8 @@ scans-care again σ τ h = refl
 pub millis-care : Cares millis
 unfolding answerOf
 millis-care (act a) σ τ h =
-    ap (λ (n : ℕ). millisOf (doingOf (a .kind)) (a .number) (scansOf (doingOf (a .kind)) (a .width) n) (σ .pace)) (h .1)
-    ∙ ap (millisOf (doingOf (a .kind)) (a .number) (scansOf (doingOf (a .kind)) (a .width) (τ .scans))) (h .0)
+    ap (λ (n : ℕ). millisOf (doingOf (a .kind)) (a .number) (scansOf (doingOf (a .kind)) (a .widths) n) (σ .pace)) (h .1)
+    ∙ ap (millisOf (doingOf (a .kind)) (a .number) (scansOf (doingOf (a .kind)) (a .widths) (τ .scans))) (h .0)
 millis-care (rep n z) σ τ h = refl
 millis-care close σ τ h = refl
 millis-care forever σ τ h = refl

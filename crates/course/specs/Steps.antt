@@ -5,6 +5,7 @@ use mathlib.Core.List.{List, [], _∷_}
 use lib.Dec.{ltb}
 use Rattle.basis.specs.Choice.{when}
 use Rattle.program.specs.declared.Kind.the-variants.{L, E, F, R}
+use Rattle.measure.specs.Width.{widthsOf}
 use Rattle.perform.specs.Price.{answerOf}
 use Rattle.perform.specs.Settings.{behindOf}
 use Rattle.perform.specs.declared.settings.Settings.{Settings}
@@ -26,11 +27,11 @@ settle len p fs σ = when (ltb p len) (at p fs σ) (ready σ)
 
 -- what a command answers; `L`, `E`, `F` and `R` have no text and cost nothing
 abbrev pub saysOf : Part → Settings → Performed
-saysOf (act a) σ = answerOf (a .kind) (a .number) (a .text) (a .len) (a .width) σ
-saysOf (rep n z) σ = answerOf L n 0 0 0 σ
-saysOf close σ = answerOf E 0 0 0 0 σ
-saysOf forever σ = answerOf F 0 0 0 0 σ
-saysOf again σ = answerOf R 0 0 0 0 σ
+saysOf (act a) σ = answerOf (a .kind) (a .number) (a .text) (a .len) (a .widths) σ
+saysOf (rep n z) σ = answerOf L n 0 0 (widthsOf []) σ
+saysOf close σ = answerOf E 0 0 0 (widthsOf []) σ
+saysOf forever σ = answerOf F 0 0 0 (widthsOf []) σ
+saysOf again σ = answerOf R 0 0 0 (widthsOf []) σ
 
 -- the settings behind a command
 abbrev pub setsOf : Act → Settings → Settings

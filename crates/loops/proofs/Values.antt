@@ -1,11 +1,11 @@
--- What a command's values are held to: the number and size of an `L`, and an act's number, text and width.
+-- What a command's values are held to: the number and size of an `L`, and an act's number, text and widths.
 use Prim.Native.Nat.{ℕ, _+_, _*_, _-_, _≤_}
 use mathlib.Core.Path.{_≡_, refl, subst}
 use mathlib.Core.List.{List}
 use native.Mathlib.Omega.{arith}
 use lib.ListN.{length, take, drop}
 use Rattle.program.specs.Command.{readOf}
-use Rattle.measure.specs.Width.{widthOf}
+use Rattle.measure.specs.Width.{widthsOf}
 use Rattle.program.specs.declared.Kind.{Kind}
 use Rattle.program.specs.declared.Kind.the-variants.{II, IA, IB, S, L, E, F, R, XS, XF, P, Scans, W, XD, XB, Y}
 use Rattle.program.specs.declared.Command.{Command}
@@ -67,13 +67,13 @@ by-reading b p (Refused n′ q) e n z h = let w : _≡_ {A = ℕ} 0 1 = cc in ab
 pub get-loop : (b : List ℕ) (p n z : ℕ) → get b p ≡ good (rep n z) → Loops n z
 get-loop b p n z h = by-reading b p (readOf b p) refl n z h
 
--- an act has no part in the structure, its number is in its kind's range, its text lies within the body, and its width is its
--- text's
+-- an act has no part in the structure, its number is in its kind's range, its text lies within the body, and its widths are
+-- its text's
 pub record Acts (b : List ℕ) (a : Act) : Type 0 where
   pub plain : roleOf (a .kind) ≡ Plain
   pub range : InRange (formOf (a .kind)) (a .number)
   pub within : a .text + a .len ≤ length b
-  pub wide : a .width ≡ widthOf (take (a .len) (drop (a .text) b))
+  pub wide : a .widths ≡ widthsOf (take (a .len) (drop (a .text) b))
 
 act-role : (b : List ℕ) (p : ℕ) (k : Command) → readOf b p ≡ Good k → (r : Role) → roleOf (k .kind) ≡ r → (a : Act) → partOf r (actOf b p k) ≡ act a → Acts b a
 act-role b p k e Plain h a q =

@@ -6,7 +6,8 @@ use lib.Dec.{ltb}
 use lib.ListN.{length, take, drop}
 use Rattle.basis.specs.Choice.{when}
 use Rattle.program.specs.Command.{readOf}
-use Rattle.measure.specs.Width.{widthOf}
+use Rattle.measure.specs.Width.{widthsOf}
+use Rattle.measure.specs.declared.width.Widths.{Widths}
 use Rattle.program.specs.declared.Kind.{Kind}
 use Rattle.program.specs.declared.Kind.the-variants.{II, IA, IB, S, L, E, F, R, XS, XF, P, Scans, W, XD, XB, Y}
 use Rattle.program.specs.declared.Command.{Command}
@@ -34,14 +35,14 @@ roleOf XD = Plain
 roleOf XB = Plain
 roleOf Y = Plain
 
--- a command that is performed and passed: its bytes, kind, number as written, text place and length, and the text's width
+-- a command that is performed and passed: its bytes, kind, number as written, text place and length, and the text's widths
 pub record Act : Type 0 where
   pub size : ℕ
   pub kind : Kind
   pub number : ℕ
   pub text : ℕ
   pub len : ℕ
-  pub width : ℕ
+  pub widths : Widths
 
 -- a command: an act, an `L` of a number and a size, `E`, `F`, `R`
 pub data Part : Type 0 where
@@ -80,7 +81,7 @@ actOf b p c =
       number = c .number;
       text = c .text;
       len = c .len;
-      width = widthOf (take (c .len) (drop (c .text) b));
+      widths = widthsOf (take (c .len) (drop (c .text) b));
     }
 
 abbrev pub tokOf : List ℕ → ℕ → Reading → Tok

@@ -11,7 +11,8 @@ use lib.ListN.{take, drop}
 use borrow.Author.Tests.{lt-ltb, le-ltb, le-leb, lt-leb, ne-eqb}
 use Rattle.basis.specs.Choice.{when}
 use Rattle.basis.proofs.Choices.{when-true, when-false}
-use Rattle.measure.specs.Width.{widthOf}
+use Rattle.measure.specs.Width.{widthsOf}
+use Rattle.measure.specs.declared.width.Widths.{Widths}
 use Rattle.program.specs.Command.{readOf}
 use Rattle.program.specs.declared.Command.{Command}
 use Rattle.program.specs.declared.Reading.the-variants.{Good}
@@ -87,8 +88,8 @@ moved-by Forever b p c r e = return-by r p (r .inner .place) (r .inner .left) (r
 moved-by Again b p c r e = settle-is r 0 (framesOf (r .inner)) (r .settings)
 
 -- a Busy run with a good command at its place
-pub ran-good : (b : List ℕ) (r : Run) (c : Command) (w : ℕ) (x : Run) (y : Performed) → readOf b (r .place) ≡ Good c
-    → w ≡ widthOf (take (c .len) (drop (c .text) b))
+pub ran-good : (b : List ℕ) (r : Run) (c : Command) (w : Widths) (x : Run) (y : Performed) → readOf b (r .place) ≡ Good c
+    → w ≡ widthsOf (take (c .len) (drop (c .text) b))
     → y ≡ answerOf (c .kind) (c .number) (c .text) (c .len) w (r .settings)
     → x ≡ movedOf (roleOf (c .kind)) (c .kind) (c .number) r (c .next)
     → _≡_ {A = Stepped} (record { run = x; answer = Did y }) (ranOf b r)
@@ -102,7 +103,7 @@ ran-good b r c w x y e ew ey ex =
     ∙ sym (moved-by ρ b p c r (next-is b p c e ρ refl))
     ∙ ap (λ (t : Tok). runOf r (wentAt (r .len) t p (framesOf (r .inner)) (r .settings))) (sym there) in
     let says : Did y ≡ sayOf (saidAt (get b p) (r .settings)) =
-    ap Did (ey ∙ ap (λ (n : ℕ). answerOf (c .kind) (c .number) (c .text) (c .len) n (r .settings)) ew ∙ sym (says-is b p c (r .settings) e))
+    ap Did (ey ∙ ap (λ (v : Widths). answerOf (c .kind) (c .number) (c .text) (c .len) v (r .settings)) ew ∙ sym (says-is b p c (r .settings) e))
     ∙ ap (λ (t : Tok). sayOf (saidAt t (r .settings))) (sym there) in
     ap (λ (z : Run). record { run = z; answer = Did y }) next
     ∙ ap (λ (z : Answer). record { run = runOf r (wentAt (r .len) (get b p) p (framesOf (r .inner)) (r .settings)); answer = z }) says

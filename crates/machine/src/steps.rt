@@ -10,7 +10,7 @@ use judge::Found;
 use judge::find;
 use loops::Role;
 use loops::role_of;
-use measure::text_width;
+use measure::measure_at;
 use perform::Settings;
 use perform::perform;
 use program::Command;
@@ -132,8 +132,8 @@ impl Run {
         let number = command.number as u8;
         let text = command.text;
         let count = command.len;
-        let wide = text_width(body, text, count);
-        let said = perform(kind, number, text, count, wide, settings);
+        let widths = measure_at(body, text, count);
+        let said = perform(kind, number, text, count, widths, settings);
         Stepped {
             run: self.moved(kind, number, command.next),
             answer: Answer::Did(said),

@@ -1,1 +1,3 @@
+pub mod Capped
+pub mod Edge
 pub mod Width

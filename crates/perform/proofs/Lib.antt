@@ -1,2 +1,3 @@
 pub mod Answers
 pub mod Lasts
+pub mod Same

@@ -5,6 +5,7 @@ use lib.Dec.{eqb}
 use Rattle.basis.specs.Choice.{when}
 use Rattle.units.specs.Units.{sumOf, scansOf as scansEach, millisOf as millisAt}
 use Rattle.measure.specs.Width.{fitsOf, columnOf as centred}
+use Rattle.measure.specs.declared.width.Widths.{Widths}
 use Rattle.program.specs.declared.Kind.{Kind}
 use Rattle.program.specs.declared.Kind.the-variants.{II, IA, IB, S, L, E, F, R, XS, XF, P, Scans, W, XD, XB, Y}
 use Rattle.perform.specs.declared.price.Doing.{Doing}
@@ -31,16 +32,16 @@ doingOf XD = Rests
 doingOf XB = Rests
 doingOf Y = Rests
 
--- the shifts of a scroll: none of width 0, else width + 96
-abbrev pub shiftsOf : ℕ → ℕ
-shiftsOf width = when (eqb width 0) 0 (sumOf width 96)
+-- the shifts of a scroll, by the whole width: none of width 0, else width + 96
+abbrev pub shiftsOf : Widths → ℕ
+shiftsOf w = when (eqb (w .whole) 0) 0 (sumOf (w .whole) 96)
 
 -- a text that is shown but doesn't fit acts as `S`
-abbrev pub scansOf : Doing → (width each : ℕ) → ℕ
-scansOf (Shows n) width each = when (fitsOf width) n (scansEach (shiftsOf width) each)
-scansOf Streams width each = scansEach (shiftsOf width) each
-scansOf Waits width each = 0
-scansOf Rests width each = 0
+abbrev pub scansOf : Doing → Widths → (each : ℕ) → ℕ
+scansOf (Shows n) w each = when (fitsOf w) n (scansEach (shiftsOf w) each)
+scansOf Streams w each = scansEach (shiftsOf w) each
+scansOf Waits w each = 0
+scansOf Rests w each = 0
 
 abbrev pub millisOf : Doing → (number scans pace : ℕ) → ℕ
 millisOf (Shows n) number scans pace = millisAt scans pace
@@ -48,29 +49,29 @@ millisOf Streams number scans pace = millisAt scans pace
 millisOf Waits number scans pace = 100 * number
 millisOf Rests number scans pace = 0
 
-abbrev pub columnOf : Doing → ℕ → ℕ
-columnOf (Shows n) width = when (fitsOf width) (centred width) 0
-columnOf Streams width = 0
-columnOf Waits width = 0
-columnOf Rests width = 0
+abbrev pub columnOf : Doing → Widths → ℕ
+columnOf (Shows n) w = when (fitsOf w) (centred w) 0
+columnOf Streams w = 0
+columnOf Waits w = 0
+columnOf Rests w = 0
 
-abbrev pub shownOf : Doing → Kind → ℕ → Kind
-shownOf (Shows n) k width = when (fitsOf width) k S
-shownOf Streams k width = k
-shownOf Waits k width = k
-shownOf Rests k width = k
+abbrev pub shownOf : Doing → Kind → Widths → Kind
+shownOf (Shows n) k w = when (fitsOf w) k S
+shownOf Streams k w = k
+shownOf Waits k w = k
+shownOf Rests k w = k
 
--- a command of this kind, number, text place and length, and width of its text, performed at these settings
-unfoldable pub answerOf : Kind → (number text len width : ℕ) → Settings → Performed
-answerOf k number text len width σ =
+-- a command of this kind, number, text place and length, and widths of its text, performed at these settings
+unfoldable pub answerOf : Kind → (number text len : ℕ) → Widths → Settings → Performed
+answerOf k number text len w σ =
     let d = doingOf k in
-    let n = scansOf d width (σ .scans) in
+    let n = scansOf d w (σ .scans) in
     record {
-      kind = shownOf d k width;
+      kind = shownOf d k w;
       number = number;
       text = text;
       len = len;
-      column = columnOf d width;
+      column = columnOf d w;
       scans = record { 0 = n };
       millis = record { 0 = millisOf d number n (σ .pace) };
     }

@@ -1,5 +1,6 @@
 // What a command answers when it is performed (S1 to S5, S18), with its price in scans (S19) and milliseconds (S20).
 use crate::Settings;
+use measure::Widths;
 use measure::fits;
 use measure::start_column;
 use program::Kind;
@@ -51,28 +52,28 @@ fn does(kind: Kind) -> Doing
     }
 }
 
-// The shifts of a scroll of this width.
-fn shifts(width: usize) -> Shifts
-    ensures { λ r. ⌜ r .0 ≡ shiftsOf width ⌝ }
+// The shifts of a scroll of a text of these widths: it goes by the whole width.
+fn shifts(widths: Widths) -> Shifts
+    ensures { λ r. ⌜ r .0 ≡ shiftsOf widths ⌝ }
 {
-    if width == 0 {
+    if widths.whole == 0 {
         return Shifts(0);
     }
-    Shifts(width as u64).add(Shifts(96))
+    Shifts(widths.whole as u64).add(Shifts(96))
 }
 
 // The scans of a command.
-fn scans(doing: Doing, width: usize, each: u8) -> Scans
-    ensures { λ r. ⌜ r .0 ≡ scansOf doing width each ⌝ }
+fn scans(doing: Doing, widths: Widths, each: u8) -> Scans
+    ensures { λ r. ⌜ r .0 ≡ scansOf doing widths each ⌝ }
 {
     match doing {
         Doing::Shows(n) => {
-            if fits(width) {
+            if fits(widths) {
                 return Scans(n as u64);
             }
-            shifts(width).scans(each)
+            shifts(widths).scans(each)
         }
-        Doing::Streams => shifts(width).scans(each),
+        Doing::Streams => shifts(widths).scans(each),
         Doing::Waits => Scans(0),
         Doing::Rests => Scans(0),
     }
@@ -91,13 +92,13 @@ fn millis(doing: Doing, number: u8, scans: Scans, pace: u8) -> Millis
 }
 
 // The column at which a shown text starts.
-fn column(doing: Doing, width: usize) -> usize
-    ensures { λ r. ⌜ r ≡ columnOf doing width ⌝ }
+fn column(doing: Doing, widths: Widths) -> usize
+    ensures { λ r. ⌜ r ≡ columnOf doing widths ⌝ }
 {
     match doing {
         Doing::Shows(_) => {
-            if fits(width) {
-                return start_column(width);
+            if fits(widths) {
+                return start_column(widths);
             }
             0
         }
@@ -108,12 +109,12 @@ fn column(doing: Doing, width: usize) -> usize
 }
 
 // The kind that is answered: `S` for an `I` that scrolls.
-fn shown(doing: Doing, kind: Kind, width: usize) -> Kind
-    ensures { λ r. ⌜ r ≡ shownOf doing kind width ⌝ }
+fn shown(doing: Doing, kind: Kind, widths: Widths) -> Kind
+    ensures { λ r. ⌜ r ≡ shownOf doing kind widths ⌝ }
 {
     match doing {
         Doing::Shows(_) => {
-            if fits(width) {
+            if fits(widths) {
                 return kind;
             }
             Kind::S
@@ -124,25 +125,25 @@ fn shown(doing: Doing, kind: Kind, width: usize) -> Kind
     }
 }
 
-// A command of this kind, number, text place and length, and width of its text, performed at these settings.
+// A command of this kind, number, text place and length, and widths of its text, performed at these settings.
 pub fn perform(
     kind: Kind,
     number: u8,
     text: usize,
     len: usize,
-    width: usize,
+    widths: Widths,
     settings: Settings,
 ) -> Performed
-    ensures { λ r. ⌜ r ≡ answerOf kind number text len width settings ⌝ }
+    ensures { λ r. ⌜ r ≡ answerOf kind number text len widths settings ⌝ }
 {
     let doing = does(kind);
-    let cost = scans(doing, width, settings.scans);
+    let cost = scans(doing, widths, settings.scans);
     Performed {
-        kind: shown(doing, kind, width),
+        kind: shown(doing, kind, widths),
         number,
         text,
         len,
-        column: column(doing, width),
+        column: column(doing, widths),
         scans: cost,
         millis: millis(doing, number, cost, settings.pace),
     }

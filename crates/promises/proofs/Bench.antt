@@ -22,7 +22,7 @@ use Rattle.reckon.specs.Forecast.{settingsAt, forecastOf}
 use Rattle.reckon.specs.declared.reckon.Foretold.the-variants.{Ends}
 use Rattle.reckon.proofs.Demand.{forecast-holds}
 use Rattle.sign.specs.Reset.{freshOf}
-use Rattle.promises.specs.Bench.{All, starred, w5, l3w2e, shi, s, slow}
+use Rattle.promises.specs.Bench.{All, starred, w5, l3w2e, shi, s, slow, edge}
 
 -- a program that ends is foretold the sums over its commands, and the settings after them
 abbrev at4 : Settings
@@ -44,7 +44,7 @@ all-starred = (
       refl,
       (
         refl,
-        (refl, (refl, (foretold w5 refl refl, (foretold l3w2e refl refl, (foretold shi refl refl, (foretold s refl refl, (foretold slow refl refl, (refl, (refl, (refl, (refl, tt))))))))))),
+        (refl, (refl, (foretold w5 refl refl, (foretold l3w2e refl refl, (foretold shi refl refl, (foretold s refl refl, (foretold slow refl refl, (foretold edge refl refl, (refl, (refl, (refl, (refl, tt)))))))))))),
       ),
     ),
   ),

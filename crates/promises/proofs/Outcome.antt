@@ -63,12 +63,12 @@ use Rattle.params.proofs.read_number.Reads as params-read-number-reads
 use Rattle.program.proofs.read_command as program-read-command
 use Rattle.program.proofs.read_command.Kinds as program-read-command-kinds
 use Rattle.program.proofs.read_command.Reads as program-read-command-reads
-use Rattle.measure.proofs.width as measure-width
-use Rattle.measure.proofs.width.Kinds as measure-width-kinds
-use Rattle.measure.proofs.width.Reads as measure-width-reads
-use Rattle.measure.proofs.text_width as measure-text-width
-use Rattle.measure.proofs.text_width.Kinds as measure-text-width-kinds
-use Rattle.measure.proofs.text_width.Reads as measure-text-width-reads
+use Rattle.measure.proofs.measure as measure-measure
+use Rattle.measure.proofs.measure.Kinds as measure-measure-kinds
+use Rattle.measure.proofs.measure.Reads as measure-measure-reads
+use Rattle.measure.proofs.measure_at as measure-measure-at
+use Rattle.measure.proofs.measure_at.Kinds as measure-measure-at-kinds
+use Rattle.measure.proofs.measure_at.Reads as measure-measure-at-reads
 use Rattle.measure.proofs.fits as measure-fits
 use Rattle.measure.proofs.fits.Kinds as measure-fits-kinds
 use Rattle.measure.proofs.fits.Reads as measure-fits-reads
@@ -287,13 +287,13 @@ pub one-program-read-command : (κs : Lifetimes.Lfts 1) (a : World.ArgsD program
     (s s′ : Clauses.AtExit (K.endedOf 1 program-read-command-kinds.ps program-read-command-kinds.r) κs) → program-read-command-reads.Post κs a r s → program-read-command-reads.Post κs a r′ s′ → r ≡ r′
 one-program-read-command κs a r r′ s s′ h h′ = one h h′
 
-pub one-measure-width : (κs : Lifetimes.Lfts 1) (a : World.ArgsD measure-width.signature κs) (r r′ : World.ResD measure-width.signature κs)
-    (s s′ : Clauses.AtExit (K.endedOf 1 measure-width-kinds.ps measure-width-kinds.r) κs) → measure-width-reads.Post κs a r s → measure-width-reads.Post κs a r′ s′ → r ≡ r′
-one-measure-width κs a r r′ s s′ h h′ = one h h′
+pub one-measure-measure : (κs : Lifetimes.Lfts 1) (a : World.ArgsD measure-measure.signature κs) (r r′ : World.ResD measure-measure.signature κs)
+    (s s′ : Clauses.AtExit (K.endedOf 1 measure-measure-kinds.ps measure-measure-kinds.r) κs) → measure-measure-reads.Post κs a r s → measure-measure-reads.Post κs a r′ s′ → r ≡ r′
+one-measure-measure κs a r r′ s s′ h h′ = one h h′
 
-pub one-measure-text-width : (κs : Lifetimes.Lfts 1) (a : World.ArgsD measure-text-width.signature κs) (r r′ : World.ResD measure-text-width.signature κs)
-    (s s′ : Clauses.AtExit (K.endedOf 1 measure-text-width-kinds.ps measure-text-width-kinds.r) κs) → measure-text-width-reads.Post κs a r s → measure-text-width-reads.Post κs a r′ s′ → r ≡ r′
-one-measure-text-width κs a r r′ s s′ h h′ = one h h′
+pub one-measure-measure-at : (κs : Lifetimes.Lfts 1) (a : World.ArgsD measure-measure-at.signature κs) (r r′ : World.ResD measure-measure-at.signature κs)
+    (s s′ : Clauses.AtExit (K.endedOf 1 measure-measure-at-kinds.ps measure-measure-at-kinds.r) κs) → measure-measure-at-reads.Post κs a r s → measure-measure-at-reads.Post κs a r′ s′ → r ≡ r′
+one-measure-measure-at κs a r r′ s s′ h h′ = one h h′
 
 pub one-measure-fits : (κs : Lifetimes.Lfts 0) (a : World.ArgsD measure-fits.signature κs) (r r′ : World.ResD measure-fits.signature κs)
     (s s′ : Clauses.AtExit (K.endedOf 0 measure-fits-kinds.ps measure-fits-kinds.r) κs) → measure-fits-reads.Post κs a r s → measure-fits-reads.Post κs a r′ s′ → r ≡ r′

@@ -41,7 +41,7 @@ use Rattle.service.specs.Good.{Roomy}
 use Rattle.promises.specs.Bench.{hi, w5}
 use Rattle.promises.specs.Unit.{Wrote, ours, valueAt}
 use Rattle.promises.specs.Keeps.{Keeps}
-use Rattle.promises.specs.Wrong.{refusing, eager, noisy, rumour, hearsay, idle, scribbling, trusting, madeUp, inventing, lenient, atOnce, fixed, startingOver, shaken, forgetful, agreeable, deaf, orderly, surly, jumpy, frozen, sulking, drowsy, rosy, mute, parrot, encore, counting}
+use Rattle.promises.specs.Wrong.{refusing, eager, noisy, rumour, hearsay, idle, scribbling, trusting, madeUp, inventing, lenient, atOnce, fixed, startingOver, shaken, forgetful, agreeable, deaf, orderly, surly, jumpy, frozen, sulking, drowsy, rosy, mute, parrot, dated, trailing, encore, counting}
 use Rattle.promises.proofs.Pins.{no-other-unit}
 
 -- the settings that a sign is set to when it is switched on
@@ -232,6 +232,33 @@ pub sulking-fails : Keeps sulking → ⊥
 unfolding shows again freshOf readyOf startedOf clearedOf stepOf runStep settle answerOf receiveOf joinOf releaseOf staysOf soundOf runSound collectionSound judgeOf commandAt settingsSound roomOf slotsOf heldOf joinedOf sameOf begunOf storedOf standOf laid sum packetOf partOf packetsOf replyOf readOf heardOf repeatOf
 sulking-fails k =
     let n : _≡_ {A = ℕ} 16 0 = ap (λ (t : Told). t .number) (no-other-unit sulking k .step (shows again) roomy-again .told) in
+    omega arith
+
+-- `^II~CA`, and `^IIA~b`
+compact : List ℕ
+compact = 0x5E ∷ 0x49 ∷ 0x49 ∷ 0x7E ∷ 0x43 ∷ 0x41 ∷ []
+
+switching : List ℕ
+switching = 0x5E ∷ 0x49 ∷ 0x49 ∷ 0x41 ∷ 0x7E ∷ 0x62 ∷ []
+
+roomy-compact : Roomy (shows compact)
+unfolding shows compact startedOf roomOf laid
+roomy-compact = record { lens = refl; room = refl }
+
+roomy-switching : Roomy (shows switching)
+unfolding shows switching startedOf roomOf laid
+roomy-switching = record { lens = refl; room = refl }
+
+pub dated-fails : Keeps dated → ⊥
+unfolding compact shows freshOf readyOf startedOf clearedOf stepOf runStep settle answerOf receiveOf joinOf releaseOf staysOf soundOf runSound collectionSound judgeOf commandAt settingsSound roomOf slotsOf heldOf joinedOf sameOf begunOf storedOf standOf laid sum packetOf partOf packetsOf replyOf readOf heardOf repeatOf
+dated-fails k =
+    let n : _≡_ {A = ℕ} 45 46 = ap (valueAt 4) (no-other-unit dated k .step (shows compact) roomy-compact .told) in
+    omega arith
+
+pub trailing-fails : Keeps trailing → ⊥
+unfolding switching shows freshOf readyOf startedOf clearedOf stepOf runStep settle answerOf receiveOf joinOf releaseOf staysOf soundOf runSound collectionSound judgeOf commandAt settingsSound roomOf slotsOf heldOf joinedOf sameOf begunOf storedOf standOf laid sum packetOf partOf packetsOf replyOf readOf heardOf repeatOf
+trailing-fails k =
+    let n : _≡_ {A = ℕ} 46 45 = ap (valueAt 4) (no-other-unit trailing k .step (shows switching) roomy-switching .told) in
     omega arith
 
 -- a sign whose line has ended

@@ -1,8 +1,9 @@
 -- The examples that the rules mark with a star, as one table under one statement (P5).
 use Prim.Native.Nat.{ℕ}
 use mathlib.Core.Bool.{false}
-use mathlib.Core.List.{List, [], _∷_}
+use mathlib.Core.List.{List, [], _∷_, _++_}
 use mathlib.Core.Path.{_≡_}
+use lib.ListN.{replicate}
 use Rattle.packet.specs.Wire.{packetOf, queryOf, resetOf}
 use Rattle.reader.specs.Read.{readOf}
 use Rattle.reader.specs.declared.read.Reading.{Reading}
@@ -59,6 +60,10 @@ s = 0x5E ∷ 0x53 ∷ []
 abbrev pub slow : List ℕ
 slow = 0x5E ∷ 0x3D ∷ 0x36 ∷ 0x5E ∷ 0x50 ∷ 0x31 ∷ 0x5E ∷ 0x53 ∷ 0x41 ∷ []
 
+-- `^IA`, 15 times `A`, `~d`, `A`
+abbrev pub edge : List ℕ
+edge = 0x5E ∷ 0x49 ∷ 0x41 ∷ (replicate 15 0x41 ++ (0x7E ∷ 0x64 ∷ 0x41 ∷ []))
+
 -- `^L1^L2^E^E`, `^P21`, `^IIa~x`, `^L1^W1`
 abbrev pub nested : List ℕ
 nested = 0x5E ∷ 0x4C ∷ 0x31 ∷ 0x5E ∷ 0x4C ∷ 0x32 ∷ 0x5E ∷ 0x45 ∷ 0x5E ∷ 0x45 ∷ []
@@ -89,6 +94,7 @@ starred =
     ∷ foretells shi (costs 1 108 2400 4 1)
     ∷ foretells s (costs 1 0 0 4 1)
     ∷ foretells slow (costs 3 612 20400 1 6)
+    ∷ foretells edge (costs 1 7 156 4 1)
     ∷ judges nested (RefusedBody 26 3)
     ∷ judges p21 (RefusedBody 23 0)
     ∷ judges tilde (RefusedBody 25 4)

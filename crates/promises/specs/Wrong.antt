@@ -1,9 +1,9 @@
 -- Wrong units, those of P3 and P4 among them, each refuted in proofs/Wrong: what the promises shut out.
-use Prim.Native.Nat.{ℕ, suc}
+use Prim.Native.Nat.{ℕ, suc, _-_}
 use mathlib.Core.Bool.{Bool, false}
 use mathlib.Core.List.{List, [], _∷_, _++_}
 use lib.Dec.{eqb, ltb}
-use lib.ListN.{length, getD, replicate}
+use lib.ListN.{length, getD, take, drop, replicate}
 use Rattle.basis.specs.Choice.{when, _and_, _or_}
 use Rattle.basis.specs.Told.{Told, yes, no}
 use Rattle.packet.specs.Wire.{replyOf}
@@ -17,17 +17,19 @@ use Rattle.perform.specs.declared.price.Performed.{Performed}
 use Rattle.judge.specs.Verdict.{judgeOf, toldOf as verdictTold}
 use Rattle.judge.specs.declared.Verdict.{Verdict}
 use Rattle.judge.specs.declared.Verdict.the-variants.{Finite, Endless, Refused as NoProgram}
-use Rattle.loops.specs.Token.{act, rep, close}
-use Rattle.course.specs.Steps.{saysOf, setsOf}
-use Rattle.course.specs.Tree.{Block, stop, one, loop, treeIn}
-use Rattle.course.specs.Price.{leavesOf}
+use Rattle.measure.specs.Width.{measuredOf, widthsOf}
+use Rattle.measure.specs.declared.width.Widths.{Widths}
+use Rattle.loops.specs.Token.{Part, act, rep, close, forever, again, Tok, good, bad, get, tokens}
+use Rattle.course.specs.Steps.{saysOf, setsOf, saidAt}
+use Rattle.course.specs.Tree.{Block, stop, one, loop, treeOf, treeIn}
+use Rattle.course.specs.Price.{scans, millis, leavesOf, priceOf}
 use Rattle.collect.specs.Slots.{heldOf, sameOf}
 use Rattle.room.specs.Room.{roomOf}
 use Rattle.totals.specs.Totals.{totalsOf}
-use Rattle.reckon.specs.Forecast.{forecastOf, toldOf as forecastTold}
+use Rattle.reckon.specs.Forecast.{settingsAt, forecastOf, toldOf as forecastTold}
 use Rattle.reckon.specs.declared.reckon.Foretold.{Foretold}
 use Rattle.reckon.specs.declared.reckon.Foretold.the-variants.{Ends, Endless as Never, Refused as NoForecast}
-use Rattle.machine.specs.Step.{readyOf, startedOf, toldOf as answerTold}
+use Rattle.machine.specs.Step.{readyOf, startedOf, sayOf, toldOf as answerTold}
 use Rattle.machine.specs.declared.Answer.the-variants.{Idle}
 use Rattle.hear.specs.Hear.{toldOf as outcomeTold}
 use Rattle.hear.specs.Join.{beginsOf}
@@ -304,6 +306,50 @@ mute = copying (λ s out. leftBy (toldRows s [] out) [] out)
 -- a repeater that knows the standing line alone
 abbrev pub parrot : Calls Sign
 parrot = repeating (λ body place len standing. standing)
+
+-- a unit that measures texts in a way of its own, and steps and forecasts by that
+abbrev pub partBy : (List ℕ → Widths) → List ℕ → Part → Part
+partBy f b (act a) =
+    act (record { size = a .size; kind = a .kind; number = a .number; text = a .text; len = a .len; widths = f (take (a .len) (drop (a .text) b)) })
+partBy f b (rep n z) = rep n z
+partBy f b close = close
+partBy f b forever = forever
+partBy f b again = again
+
+abbrev pub tokBy : (List ℕ → Widths) → List ℕ → Tok → Tok
+tokBy f b (good c) = good (partBy f b c)
+tokBy f b (bad n q) = bad n q
+
+abbrev pub blockBy : (List ℕ → Widths) → List ℕ → Block
+blockBy f b = treeOf (tokens (λ p. tokBy f b (get b p)) (length b) (length b) 0) .block
+
+abbrev pub foretoldBy : (List ℕ → Widths) → List ℕ → Settings → Foretold → Foretold
+foretoldBy f b σ (Ends t pace each) =
+    Ends (totalsOf (t .steps .0) (priceOf scans (blockBy f b) σ) (priceOf millis (blockBy f b) σ)) pace each
+foretoldBy f b σ Never = Never
+foretoldBy f b σ (NoForecast n p) = NoForecast n p
+
+abbrev pub saidBy : (List ℕ → Widths) → Sign → Told
+saidBy f s = answerTold (sayOf (saidAt (tokBy f (runningBody s) (get (runningBody s) (s .run .place))) (s .run .settings)))
+
+abbrev pub measuring : (List ℕ → Widths) → Calls Sign
+measuring f =
+    works (λ b pace each. forecastTold (foretoldBy f b (settingsAt pace each) (forecastOf b pace each))) (ours .holds) (ours .power) (ours .receive)
+    (λ s.
+    when (eqb (s .run .len) 0 or ltb 0 (ours .step s .told .number)) (ours .step s) (record { told = saidBy f s; next = ours .step s .next }))
+    (ours .clear)
+    (ours .reply)
+    (ours .copy)
+
+-- the rule of version 1.0: the blank edge counts as text
+abbrev pub dated : Calls Sign
+dated = measuring (λ s. record { whole = widthsOf s .whole; lit = widthsOf s .whole })
+
+-- the blank edge by the font that is in force at the text's end, and not at the last character
+abbrev pub trailing : Calls Sign
+trailing =
+    measuring
+    (λ s. record { whole = measuredOf s .whole; lit = measuredOf s .whole - when (eqb (measuredOf s .edge) 0) 0 (measuredOf s .font .blank) })
 
 -- a sign that plays a line again after its end: it keeps the last body
 pub record Played : Type 0 where

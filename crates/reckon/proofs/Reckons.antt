@@ -7,7 +7,8 @@ use mathlib.Core.Logic.{dite}
 use native.Mathlib.Decide.{decLt}
 use native.Mathlib.Omega.{arith}
 use lib.ListN.{length, take, drop}
-use Rattle.measure.specs.Width.{widthOf, widest}
+use Rattle.measure.specs.Width.{widthsOf, countedOf}
+use Rattle.measure.specs.declared.width.Widths.{Widths}
 use Rattle.program.specs.Command.{readOf}
 use Rattle.program.proofs.Laws.{starts-within}
 use Rattle.program.specs.declared.Kind.{Kind}
@@ -31,8 +32,8 @@ use Rattle.totals.specs.declared.Totals.{Totals}
 use Rattle.machine.proofs.Commands.{says-is}
 
 -- a text of no bytes has no width
-pub columns-none : (b : List ℕ) (p n : ℕ) → n ≡ 0 → 0 ≡ min (widthOf (take n (drop p b))) widest
-columns-none b p n e = ap (λ (k : ℕ). min (widthOf (take k (drop p b))) widest) (sym e)
+pub widths-none : (b : List ℕ) (p n : ℕ) → n ≡ 0 → _≡_ {A = Widths} (record { whole = 0; lit = 0 }) (countedOf (widthsOf (take n (drop p b))))
+widths-none b p n e = ap (λ (k : ℕ). countedOf (widthsOf (take k (drop p b)))) (sym e)
 
 -- only a plain command changes the settings
 sets-by : (k : Kind) (b : List ℕ) (p : ℕ) (c : Command) (σ : Settings) → c .kind ≡ k
@@ -59,7 +60,7 @@ pub stands-good : (b : List ℕ) (p : ℕ) (c : Command) → readOf b p ≡ Good
 stands-good b p c e = ap (tokOf b p) e
 
 module _ (b : List ℕ) (s : Reckoned) (c : Command) (e : readOf b (s .place) ≡ Good c) where
-  pub added-is : (w : ℕ) (y : Performed) (τ : Settings) (u v : Totals) → w ≡ widthOf (take (c .len) (drop (c .text) b))
+  pub added-is : (w : Widths) (y : Performed) (τ : Settings) (u v : Totals) → w ≡ widthsOf (take (c .len) (drop (c .text) b))
       → y ≡ answerOf (c .kind) (c .number) (c .text) (c .len) w (s .settings)
       → τ ≡ behindOf (c .kind) (c .number) (s .settings)
       → v ≡ costOf y
@@ -72,7 +73,7 @@ module _ (b : List ℕ) (s : Reckoned) (c : Command) (e : readOf b (s .place) �
       let place : c .next ≡ p + sizeOf part = sym (next-is b p c e ρ refl) in
       let set : τ ≡ setsPart part (s .settings) = et ∙ sets-by (c .kind) b p c (s .settings) refl in
       let says : y ≡ saysOf part (s .settings) =
-      ey ∙ ap (λ (n : ℕ). answerOf (c .kind) (c .number) (c .text) (c .len) n (s .settings)) ew ∙ sym (says-is b p c (s .settings) e) in
+      ey ∙ ap (λ (v : Widths). answerOf (c .kind) (c .number) (c .text) (c .len) v (s .settings)) ew ∙ sym (says-is b p c (s .settings) e) in
       let sum : u ≡ plusOf (s .totals) (costOf (saysOf part (s .settings))) = eu ∙ ap (plusOf (s .totals)) (ev ∙ ap costOf says) in
       ap (λ (n : ℕ). record { place = n; settings = τ; totals = u }) place
       ∙ ap (λ (x : Settings). record { place = p + sizeOf part; settings = x; totals = u }) set

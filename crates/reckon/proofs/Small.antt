@@ -2,7 +2,7 @@
 use Prim.Native.Nat.{ℕ, zero, suc, _+_, _*_, _^_, _≤_, _<_}
 use mathlib.Core.List.{List, [], _∷_}
 use mathlib.Core.Bool.{Bool, true, false}
-use mathlib.Core.Path.{_≡_, refl}
+use mathlib.Core.Path.{_≡_, refl, ap}
 use native.Mathlib.Omega.{arith}
 use native.Mathlib.Nat.{mul-le-mul-left, mul-le-mul-right, div-le-of-le-mul}
 use lib.Dec.{eqb}
@@ -10,9 +10,10 @@ use lib.ListN.{length, take, drop, length-take}
 use Rattle.basis.specs.Choice.{when}
 use Rattle.units.specs.Units.{sumOf, scansOf as scansEach, roundedUp, millisOf as millisAt}
 use Rattle.measure.specs.Width.{fitsOf}
+use Rattle.measure.specs.declared.width.Widths.{Widths}
 use Rattle.program.specs.declared.Kind.{Kind}
 use Rattle.program.specs.declared.Kind.the-variants.{II, IA, IB, S, L, E, F, R, XS, XF, P, Scans, W, XD, XB, Y}
-use Rattle.measure.proofs.Widths.{width-most}
+use Rattle.measure.proofs.Widths.{whole-most}
 use Rattle.perform.specs.Price.{doingOf, shiftsOf, scansOf, millisOf, answerOf}
 use Rattle.perform.specs.Settings.{soundOf as settingsSound}
 use Rattle.perform.specs.declared.price.Doing.{Doing}
@@ -32,22 +33,22 @@ use Rattle.course.proofs.Theorem.{finite-ends, finite-stands}
 use Rattle.machine.proofs.Commands.{range-byte}
 use Rattle.machine.proofs.Ranges.{behind-sound, ranged}
 
-shifts-most : (w : ℕ) → w ≤ 756 → shiftsOf w ≤ 852
-shifts-most w h = go (eqb w 0)
+shifts-most : (w : Widths) → w .whole ≤ 756 → shiftsOf w ≤ 852
+shifts-most w h = go (eqb (w .whole) 0)
   where
-    go : (t : Bool) → when t 0 (sumOf w 96) ≤ 852
+    go : (t : Bool) → when t 0 (sumOf (w .whole) 96) ≤ 852
     go true = omega arith
     go false = omega arith
 
 -- a scroll of at most 852 shifts at at most 6 scans
-scroll-most : (w k : ℕ) → w ≤ 756 → k ≤ 6 → scansEach (shiftsOf w) k ≤ 5112
+scroll-most : (w : Widths) (k : ℕ) → w .whole ≤ 756 → k ≤ 6 → scansEach (shiftsOf w) k ≤ 5112
 scroll-most w k h hk =
     let a = shifts-most w h in
     let b : shiftsOf w * k ≤ 852 * k = mul-le-mul-right k a in
     let c : scansEach (shiftsOf w) k ≤ shiftsOf w * k = omega arith in
     omega arith
 
-scans-most : (d : Doing) (w k : ℕ) → w ≤ 756 → k ≤ 6 → ((n : ℕ) → d ≡ Shows n → n ≤ 7) → scansOf d w k ≤ 5112
+scans-most : (d : Doing) (w : Widths) (k : ℕ) → w .whole ≤ 756 → k ≤ 6 → ((n : ℕ) → d ≡ Shows n → n ≤ 7) → scansOf d w k ≤ 5112
 scans-most (Shows n) w k h hk s = go (fitsOf w) (s n refl) (scroll-most w k h hk)
   where
     go : (t : Bool) → n ≤ 7 → scansEach (shiftsOf w) k ≤ 5112 → when t n (scansEach (shiftsOf w) k) ≤ 5112
@@ -91,20 +92,20 @@ millis-most Rests number s pace h hs hp = omega arith
 
 -- an act that stands in a body of at most 84 bytes, at settings in range
 module _ (b : List ℕ) (size : length b ≤ 84) (p : ℕ) (a : Act) (there : get b p ≡ good (act a)) (σ : Settings) (set : settingsSound σ ≡ true) where
-  wide : a .width ≤ 756
+  wide : a .widths .whole ≤ 756
   wide =
       let x = get-act b p a there in
       let s = take (a .len) (drop (a .text) b) in
-      omega (arith, x .wide, x .within, width-most s 0x44 0, length-take (a .len) (drop (a .text) b))
+      omega (arith, ap (λ (v : Widths). v .whole) (x .wide), x .within, whole-most s, length-take (a .len) (drop (a .text) b))
 
   act-scans : scans (saysOf (act a) σ) ≤ 5112
   unfolding answerOf
-  act-scans = scans-most (doingOf (a .kind)) (a .width) (σ .scans) wide (ranged σ set .scans-most) (shows-most (a .kind))
+  act-scans = scans-most (doingOf (a .kind)) (a .widths) (σ .scans) wide (ranged σ set .scans-most) (shows-most (a .kind))
 
   act-millis : millis (saysOf (act a) σ) ≤ 170401
   unfolding answerOf
   act-millis =
-      millis-most (doingOf (a .kind)) (a .number) (scansOf (doingOf (a .kind)) (a .width) (σ .scans)) (σ .pace)
+      millis-most (doingOf (a .kind)) (a .number) (scansOf (doingOf (a .kind)) (a .widths) (σ .scans)) (σ .pace)
       (range-byte (a .kind) (a .number) (get-act b p a there .range))
       act-scans
       (ranged σ set .pace-least)

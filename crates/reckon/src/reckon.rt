@@ -5,7 +5,8 @@ use judge::Opening;
 use judge::front;
 use loops::Role;
 use loops::role_of;
-use measure::text_width;
+use measure::Widths;
+use measure::measure_at;
 use perform::Settings;
 use perform::perform;
 use program::Command;
@@ -13,9 +14,9 @@ use program::Kind;
 use program::Reading;
 use program::read_command;
 ghost use mathlib.Core.Path.{_≡_};
-ghost use Prim.Native.Nat.{_≤_, min};
+ghost use Prim.Native.Nat.{_≤_};
 ghost use lib.ListN.{length, take, drop};
-ghost use Rattle.measure.specs.Width.{widthOf, widest};
+ghost use Rattle.measure.specs.Width.{widthsOf, countedOf};
 ghost use Rattle.program.specs.Command.{readOf};
 ghost use Rattle.program.specs.declared.Reading.the-variants.{Good};
 ghost use Rattle.loops.specs.Token.{get};
@@ -30,14 +31,14 @@ pub struct Reckoned {
     pub totals: Totals,
 }
 
-// The width of the text of so many bytes at a place of a body, which is only counted where there is a text.
-pub(crate) fn columns(body: &[u8], place: usize, len: usize) -> usize
-    ensures { λ r. ⌜ r ≡ min (widthOf (take len (drop place (now (body .entry))))) widest ⌝ }
+// The widths of the text of so many bytes at a place of a body, which is only measured where there is a text.
+pub(crate) fn measured(body: &[u8], place: usize, len: usize) -> Widths
+    ensures { λ r. ⌜ r ≡ countedOf (widthsOf (take len (drop place (now (body .entry))))) ⌝ }
 {
     if len == 0 {
-        return 0;
+        return Widths { whole: 0, lit: 0 };
     }
-    text_width(body, place, len)
+    measure_at(body, place, len)
 }
 
 // The command at the place, added.
@@ -51,8 +52,8 @@ fn added(body: &[u8], command: Command, at: Reckoned) -> Reckoned
     let count = command.len;
     let settings = at.settings;
     let totals = at.totals;
-    let wide = columns(body, text, count);
-    let performed = perform(kind, number, text, count, wide, settings);
+    let widths = measured(body, text, count);
+    let performed = perform(kind, number, text, count, widths, settings);
     Reckoned {
         place: command.next,
         settings: settings.behind(kind, number),

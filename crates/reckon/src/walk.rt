@@ -3,8 +3,8 @@
 use crate::Foretold;
 use crate::Totals;
 use crate::reckon::Reckoned;
-use crate::reckon::columns;
 use crate::reckon::later;
+use crate::reckon::measured;
 use loops::Flow;
 use loops::Open;
 use loops::Role;
@@ -143,8 +143,8 @@ fn summed(body: &[u8], read: Reading, flow: Flow, sums: Sums) -> Sums
     let count = command.len;
     let settings = at.settings;
     let totals = at.totals;
-    let wide = columns(body, text, count);
-    let performed = perform(kind, number, text, count, wide, settings);
+    let widths = measured(body, text, count);
+    let performed = perform(kind, number, text, count, widths, settings);
     let here = Reckoned {
         place: command.next,
         settings: settings.behind(kind, number),

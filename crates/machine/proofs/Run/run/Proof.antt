@@ -1,7 +1,7 @@
 -- `run` performs the command at its place.
 use native.Mathlib.Omega.{arith}
 use mathlib.Core.Path.{_∙_}
-use Rattle.measure.proofs.Widths.{part-whole}
+use Rattle.measure.proofs.Widths.{part-all}
 use Rattle.machine.proofs.Commands.{number-byte}
 use Rattle.machine.proofs.Moves.{ran-good}
 use Rattle.machine.proofs.Sounds.{held-most}
@@ -14,8 +14,8 @@ cast-number c =
     let a = c .before .before .before .args in
     omega (arith, number-byte (a .body .now) (a .self .place) (a .command) (c .before .before .before .pre .1))
 
-text-width-requires : tie.Need-text-width-requires
-text-width-requires c κs = search needs
+measure-at-requires : tie.Need-measure-at-requires
+measure-at-requires c κs = search needs
 
 perform-requires : tie.Need-perform-requires
 perform-requires c κs = search needs
@@ -29,8 +29,8 @@ returns c =
     let p = c .before .before .before .before .before .before .pre in
     let d = a .command in
     let most = held-most (a .body .now) (a .self .place) (a .self .inner) (p .0) in
-    let wide = c .before .before .text-width .ensures ∙ part-whole (a .body .now) (d .text) (d .len) (omega (arith, most)) in
-    ran-good (a .body .now) (a .self) d (c .before .before .text-width .result) (c .moved .result) (c .before .perform .result) (p .1) wide (c .before .perform .ensures) (c .moved .ensures)
+    let wide = c .before .before .measure-at .ensures ∙ part-all (a .body .now) (d .text) (d .len) (omega (arith, most)) in
+    ran-good (a .body .now) (a .self) d (c .before .before .measure-at .result) (c .moved .result) (c .before .perform .result) (p .1) wide (c .before .perform .ensures) (c .moved .ensures)
 
 pub run-spec : {M : Type 1} → statement M
-run-spec = tie.close (tie.spec cast-number text-width-requires perform-requires moved-requires returns)
+run-spec = tie.close (tie.spec cast-number measure-at-requires perform-requires moved-requires returns)

@@ -21,7 +21,7 @@ millis-requires c κs = search needs
 returns : tie.Need-returns
 returns c =
     let a = c .before .before .before .before .before .args in
-    answer-is (a .kind) (a .number) (a .text) (a .len) (a .width) (a .settings) (c .before .before .before .before .does .result) (c .before .before .shown .result) (c .before .column .result)
+    answer-is (a .kind) (a .number) (a .text) (a .len) (a .widths) (a .settings) (c .before .before .before .before .does .result) (c .before .before .shown .result) (c .before .column .result)
     (c .before .before .before .scans .result)
     (c .millis .result)
     (c .before .before .before .before .does .ensures)

@@ -1,7 +1,7 @@
 -- `added` performs the command at the place and adds its cost.
 use mathlib.Core.Path.{_∙_}
 use native.Mathlib.Omega.{arith}
-use Rattle.measure.proofs.Widths.{part-whole}
+use Rattle.measure.proofs.Widths.{part-all}
 use Rattle.machine.proofs.Commands.{number-byte}
 use Rattle.reckon.proofs.Reckons.{added-is}
 use borrow.Author.Needs.{needs}
@@ -13,8 +13,8 @@ cast-number c =
     let a = c .before .before .args in
     omega (arith, number-byte (a .body .now) (a .at .place) (a .command) (c .before .before .pre .0))
 
-columns-requires : tie.Need-columns-requires
-columns-requires c κs = search needs
+measured-requires : tie.Need-measured-requires
+measured-requires c κs = search needs
 
 perform-requires : tie.Need-perform-requires
 perform-requires c κs = search needs
@@ -32,15 +32,15 @@ returns : tie.Need-returns
 returns c =
     let a = c .before .before .before .before .before .before .before .before .before .args in
     let size = c .before .before .before .before .before .before .before .before .before .pre .1 in
-    let wide = c .before .before .before .before .columns .ensures ∙ part-whole (a .body .now) (a .command .text) (a .command .len) (omega (arith, size)) in
-    added-is (a .body .now) (a .at) (a .command) (c .before .before .before .before .before .before .before .before .before .pre .0) (c .before .before .before .before .columns .result) (c .before .before .before .perform .result) (c .before .before .behind .result) (c .plus .result) (c .before .cost .result) wide (c .before .before .before .perform .ensures) (c .before .before .behind .ensures) (c .before .cost .ensures) (c .plus .ensures)
+    let wide = c .before .before .before .before .measured .ensures ∙ part-all (a .body .now) (a .command .text) (a .command .len) (omega (arith, size)) in
+    added-is (a .body .now) (a .at) (a .command) (c .before .before .before .before .before .before .before .before .before .pre .0) (c .before .before .before .before .measured .result) (c .before .before .before .perform .result) (c .before .before .behind .result) (c .plus .result) (c .before .cost .result) wide (c .before .before .before .perform .ensures) (c .before .before .behind .ensures) (c .before .cost .ensures) (c .plus .ensures)
 
 pub added-spec : {M : Type 1} → statement M
 added-spec =
     tie.close
     (tie.spec
     cast-number
-    columns-requires
+    measured-requires
     perform-requires
     behind-requires
     cost-requires

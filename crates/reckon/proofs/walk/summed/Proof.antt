@@ -1,7 +1,7 @@
 -- `summed` adds the command and takes what it leaves.
 use mathlib.Core.Path.{sym, ap, _∙_}
 use native.Mathlib.Omega.{arith}
-use Rattle.measure.proofs.Widths.{part-whole}
+use Rattle.measure.proofs.Widths.{part-all}
 use Rattle.machine.proofs.Commands.{number-byte}
 use Rattle.reckon.specs.Reckon.{plainOf}
 use Rattle.reckon.proofs.Reckons.{added-is, pass-stops}
@@ -30,8 +30,8 @@ cast-number c =
     let e = sym (c .before .before .before .before .before .before .before .before .pre .1 .0) ∙ c .before .before .before .before .before .read .given .1 in
     omega (arith, number-byte b (s .at .place) d e)
 
-columns-requires : tie.Need-columns-requires
-columns-requires c κs = search needs
+measured-requires : tie.Need-measured-requires
+measured-requires c κs = search needs
 
 perform-requires : tie.Need-perform-requires
 perform-requires c κs = search needs
@@ -52,8 +52,8 @@ taken-requires c κs =
     let s = a .sums in
     let d = c .before .before .before .before .before .before .before .before .before .before .before .before .read .given .0 .0 in
     let e = sym (c .before .before .before .before .before .before .before .before .before .before .before .before .before .before .before .pre .1 .0) ∙ c .before .before .before .before .before .before .before .before .before .before .before .before .read .given .1 in
-    let wide = c .before .before .before .before .columns .ensures ∙ part-whole b (d .text) (d .len) (omega (arith, c .before .before .before .before .before .before .before .before .before .before .before .before .before .before .before .pre .0)) in
-    let is = added-is b (s .at) d e (c .before .before .before .before .columns .result) (c .before .before .before .perform .result) (c .before .before .behind .result) (c .plus .result) (c .before .cost .result) wide (c .before .before .before .perform .ensures) (c .before .before .behind .ensures) (c .before .cost .ensures) (c .plus .ensures) in
+    let wide = c .before .before .before .before .measured .ensures ∙ part-all b (d .text) (d .len) (omega (arith, c .before .before .before .before .before .before .before .before .before .before .before .before .before .before .before .pre .0)) in
+    let is = added-is b (s .at) d e (c .before .before .before .before .measured .result) (c .before .before .before .perform .result) (c .before .before .behind .result) (c .plus .result) (c .before .cost .result) wide (c .before .before .before .perform .ensures) (c .before .before .behind .ensures) (c .before .cost .ensures) (c .plus .ensures) in
     (c .before .before .before .before .before .before .before .before .before .before .before .before .before .before .before .pre .0, λ r l w. (is ∙ sym (pass-stops b (s .at) d e (ap plainOf r)) ∙ c .before .before .before .before .before .before .before .before .before .before .before .before .before .before .before .pre .1 .1 l w .0, c .before .before .before .before .before .before .before .before .before .before .before .before .before .before .before .pre .1 .1 l w .1))
 
 returns-2 : tie.Need-returns-2
@@ -63,8 +63,8 @@ returns-2 c =
     let s = a .sums in
     let d = c .before .before .before .before .before .before .before .before .before .before .before .before .before .read .given .0 .0 in
     let e = sym (c .before .before .before .before .before .before .before .before .before .before .before .before .before .before .before .before .pre .1 .0) ∙ c .before .before .before .before .before .before .before .before .before .before .before .before .before .read .given .1 in
-    let wide = c .before .before .before .before .before .columns .ensures ∙ part-whole b (d .text) (d .len) (omega (arith, c .before .before .before .before .before .before .before .before .before .before .before .before .before .before .before .before .pre .0)) in
-    let is = added-is b (s .at) d e (c .before .before .before .before .before .columns .result) (c .before .before .before .before .perform .result) (c .before .before .before .behind .result) (c .before .plus .result) (c .before .before .cost .result) wide (c .before .before .before .before .perform .ensures) (c .before .before .before .behind .ensures) (c .before .before .cost .ensures) (c .before .plus .ensures) in
+    let wide = c .before .before .before .before .before .measured .ensures ∙ part-all b (d .text) (d .len) (omega (arith, c .before .before .before .before .before .before .before .before .before .before .before .before .before .before .before .before .pre .0)) in
+    let is = added-is b (s .at) d e (c .before .before .before .before .before .measured .result) (c .before .before .before .before .perform .result) (c .before .before .before .behind .result) (c .before .plus .result) (c .before .before .cost .result) wide (c .before .before .before .before .perform .ensures) (c .before .before .before .behind .ensures) (c .before .before .cost .ensures) (c .before .plus .ensures) in
     summed-is b (a .flow) s d e _ (c .taken .result) is (c .taken .ensures)
 
 pub summed-spec : {M : Type 1} → statement M
@@ -75,7 +75,7 @@ summed-spec =
     enum-told
     returns
     cast-number
-    columns-requires
+    measured-requires
     perform-requires
     behind-requires
     cost-requires

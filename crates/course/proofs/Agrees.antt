@@ -1,7 +1,7 @@
 -- What a program costs goes by pace and scans alone: settings that agree in these two cost the same.
 use Prim.Native.Nat.{ℕ}
 use mathlib.Core.Path.{_≡_, refl, ap, _∙_}
-use Rattle.perform.specs.Price.{doingOf, scansOf, millisOf, answerOf}
+use Rattle.perform.specs.Price.{doingOf, actsOf, scansOf, millisOf, answerOf}
 use Rattle.perform.specs.Settings.{changed, changesOf}
 use Rattle.perform.specs.declared.settings.Settings.{Settings}
 use Rattle.perform.specs.declared.price.Performed.{Performed}
@@ -45,7 +45,7 @@ ones-care c σ τ h = refl
 
 pub scans-care : Cares scans
 unfolding answerOf
-scans-care (act a) σ τ h = ap (scansOf (doingOf (a .kind)) (a .widths)) (h .1)
+scans-care (act a) σ τ h = ap (scansOf (actsOf (doingOf (a .kind)) (a .widths)) (a .widths)) (h .1)
 scans-care (rep n z) σ τ h = refl
 scans-care close σ τ h = refl
 scans-care forever σ τ h = refl
@@ -54,8 +54,8 @@ scans-care again σ τ h = refl
 pub millis-care : Cares millis
 unfolding answerOf
 millis-care (act a) σ τ h =
-    ap (λ (n : ℕ). millisOf (doingOf (a .kind)) (a .number) (scansOf (doingOf (a .kind)) (a .widths) n) (σ .pace)) (h .1)
-    ∙ ap (millisOf (doingOf (a .kind)) (a .number) (scansOf (doingOf (a .kind)) (a .widths) (τ .scans))) (h .0)
+    ap (λ (n : ℕ). millisOf (actsOf (doingOf (a .kind)) (a .widths)) (a .number) (scansOf (actsOf (doingOf (a .kind)) (a .widths)) (a .widths) n) (σ .pace)) (h .1)
+    ∙ ap (millisOf (actsOf (doingOf (a .kind)) (a .widths)) (a .number) (scansOf (actsOf (doingOf (a .kind)) (a .widths)) (a .widths) (τ .scans))) (h .0)
 millis-care (rep n z) σ τ h = refl
 millis-care close σ τ h = refl
 millis-care forever σ τ h = refl

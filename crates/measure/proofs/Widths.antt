@@ -3,6 +3,8 @@ use Prim.Native.Nat.{ℕ, _+_, _-_, _*_, _≤_, _<_, min}
 use mathlib.Core.Path.{_≡_, refl, sym, ap, subst, _∙_}
 use mathlib.Core.Bool.{Bool, true, false}
 use mathlib.Core.List.{List, [], _∷_}
+use mathlib.Core.Logic.{dite}
+use native.Mathlib.Decide.{decLt}
 use native.Mathlib.Omega.{arith}
 use lib.Dec.{eqb, leb}
 use lib.ListN.{length, getD, take, drop, drop-of-length-le, length-take, length-drop}
@@ -109,9 +111,15 @@ part-none b p n h =
     let z : widthsOf s .whole ≡ 0 = omega (arith, length-take n (drop p b), length-drop p b) in
     both 0 0 (min (widthsOf s .whole) widest) (min (widthsOf s .lit) widest) (omega arith) (omega arith)
 
-pub part-rest : (b : List ℕ) (p n : ℕ) → length b - p < n → take (length b - p) (drop p b) ≡ take n (drop p b)
-part-rest b p n h =
-    take-all (length b - p) (drop p b) (omega (arith, length-drop p b)) ∙ sym (take-all n (drop p b) (omega (arith, length-drop p b)))
+pub part-rest : (b : List ℕ) (p n : ℕ) → take (min (length b - p) n) (drop p b) ≡ take n (drop p b)
+part-rest b p n =
+    dite (decLt (length b - p) n)
+    (λ h.
+    let e : min (length b - p) n ≡ length b - p = omega arith in
+    ap (λ (k : ℕ). take k (drop p b)) e
+    ∙ take-all (length b - p) (drop p b) (omega (arith, length-drop p b))
+    ∙ sym (take-all n (drop p b) (omega (arith, length-drop p b))))
+    (λ h. let e : min (length b - p) n ≡ n = omega arith in ap (λ (k : ℕ). take k (drop p b)) e)
 
 -- one byte more, and no byte more
 all-next : (m : Measured) (s : List ℕ) (i : ℕ) → i < length s → withAll m (drop i s) ≡ withAll (withByte m (getD s i 0)) (drop (i + 1) s)

@@ -85,17 +85,20 @@ pub fn measure(text: &[u8]) -> Widths
     }
 }
 
-// The widths of the text of so many bytes that stands at a place of a body, as far as the body reaches.
+// The widths of the text of so many bytes that stands at a place of a body, as far as the body reaches. They are laid into a struct of
+// their own, which the compiler then holds in registers.
 pub fn measure_at(body: &[u8], place: usize, len: usize) -> Widths
     ensures { λ r. ⌜ r ≡ countedOf (widthsOf (take len (drop place (now (body .entry))))) ⌝ }
 {
     if body.len() < place {
         return Widths { whole: 0, lit: 0 };
     }
-    if body.len() - place < len {
-        return measure(&body[place..]);
+    let count = least(body.len() - place, len);
+    let got = measure(&body[place..place + count]);
+    Widths {
+        whole: got.whole,
+        lit: got.lit,
     }
-    measure(&body[place..place + len])
 }
 
 // Whether a text of these widths fits the sign: it goes by the lit width.

@@ -32,13 +32,23 @@ doingOf XD = Rests
 doingOf XB = Rests
 doingOf Y = Rests
 
--- the shifts of a scroll, by the whole width: none of width 0, else width + 96
-abbrev pub shiftsOf : Widths → ℕ
-shiftsOf w = when (eqb (w .whole) 0) 0 (sumOf (w .whole) 96)
+-- a text of whole width 0 is streamed by doing nothing
+abbrev pub streamsOf : Widths → Doing
+streamsOf w = when (eqb (w .whole) 0) Rests Streams
 
--- a text that is shown but doesn't fit acts as `S`
+-- what becomes of that with a text of these widths: one that is to be shown but doesn't fit acts as `S` (S18)
+abbrev pub actsOf : Doing → Widths → Doing
+actsOf (Shows n) w = when (fitsOf w) (Shows n) (streamsOf w)
+actsOf Streams w = streamsOf w
+actsOf Waits w = Waits
+actsOf Rests w = Rests
+
+-- the shifts of a scroll, by the whole width
+abbrev pub shiftsOf : Widths → ℕ
+shiftsOf w = sumOf (w .whole) 96
+
 abbrev pub scansOf : Doing → Widths → (each : ℕ) → ℕ
-scansOf (Shows n) w each = when (fitsOf w) n (scansEach (shiftsOf w) each)
+scansOf (Shows n) w each = n
 scansOf Streams w each = scansEach (shiftsOf w) each
 scansOf Waits w each = 0
 scansOf Rests w each = 0
@@ -50,24 +60,24 @@ millisOf Waits number scans pace = 100 * number
 millisOf Rests number scans pace = 0
 
 abbrev pub columnOf : Doing → Widths → ℕ
-columnOf (Shows n) w = when (fitsOf w) (centred w) 0
+columnOf (Shows n) w = centred w
 columnOf Streams w = 0
 columnOf Waits w = 0
 columnOf Rests w = 0
 
-abbrev pub shownOf : Doing → Kind → Widths → Kind
-shownOf (Shows n) k w = when (fitsOf w) k S
-shownOf Streams k w = k
-shownOf Waits k w = k
-shownOf Rests k w = k
+abbrev pub shownOf : Doing → Kind → Kind
+shownOf (Shows n) k = k
+shownOf Streams k = S
+shownOf Waits k = k
+shownOf Rests k = k
 
 -- a command of this kind, number, text place and length, and widths of its text, performed at these settings
 unfoldable pub answerOf : Kind → (number text len : ℕ) → Widths → Settings → Performed
 answerOf k number text len w σ =
-    let d = doingOf k in
+    let d = actsOf (doingOf k) w in
     let n = scansOf d w (σ .scans) in
     record {
-      kind = shownOf d k w;
+      kind = shownOf d k;
       number = number;
       text = text;
       len = len;

@@ -8,7 +8,7 @@ use units::Millis;
 use units::Scans;
 use units::Shifts;
 ghost use mathlib.Core.Path.{_≡_};
-ghost use Rattle.perform.specs.Price.{doingOf, shiftsOf, scansOf, millisOf, columnOf, shownOf, answerOf};
+ghost use Rattle.perform.specs.Price.{doingOf, streamsOf, actsOf, shiftsOf, scansOf, millisOf, columnOf, shownOf, answerOf};
 
 // What one step answers: kind, number as written, text place and length, start column, scans, milliseconds.
 pub struct Performed {
@@ -56,10 +56,35 @@ fn does(kind: Kind) -> Doing
 fn shifts(widths: Widths) -> Shifts
     ensures { λ r. ⌜ r .0 ≡ shiftsOf widths ⌝ }
 {
-    if widths.whole == 0 {
-        return Shifts(0);
-    }
     Shifts(widths.whole as u64).add(Shifts(96))
+}
+
+// A text of these widths streamed; where nothing is shown, nothing is done.
+fn streams(widths: Widths) -> Doing
+    ensures { λ r. ⌜ r ≡ streamsOf widths ⌝ }
+{
+    if widths.whole == 0 {
+        return Doing::Rests;
+    }
+    Doing::Streams
+}
+
+// What a command does with a text of these widths: where that is to be shown but doesn't fit, it acts as `S` (S18).
+fn acts(kind: Kind, widths: Widths) -> Doing
+    ensures { λ r. ⌜ r ≡ actsOf (doingOf kind) widths ⌝ }
+{
+    let doing = does(kind);
+    match doing {
+        Doing::Shows(n) => {
+            if fits(widths) {
+                return Doing::Shows(n);
+            }
+            streams(widths)
+        }
+        Doing::Streams => streams(widths),
+        Doing::Waits => Doing::Waits,
+        Doing::Rests => Doing::Rests,
+    }
 }
 
 // The scans of a command.
@@ -67,12 +92,7 @@ fn scans(doing: Doing, widths: Widths, each: u8) -> Scans
     ensures { λ r. ⌜ r .0 ≡ scansOf doing widths each ⌝ }
 {
     match doing {
-        Doing::Shows(n) => {
-            if fits(widths) {
-                return Scans(n as u64);
-            }
-            shifts(widths).scans(each)
-        }
+        Doing::Shows(n) => Scans(n as u64),
         Doing::Streams => shifts(widths).scans(each),
         Doing::Waits => Scans(0),
         Doing::Rests => Scans(0),
@@ -96,12 +116,7 @@ fn column(doing: Doing, widths: Widths) -> usize
     ensures { λ r. ⌜ r ≡ columnOf doing widths ⌝ }
 {
     match doing {
-        Doing::Shows(_) => {
-            if fits(widths) {
-                return start_column(widths);
-            }
-            0
-        }
+        Doing::Shows(_) => start_column(widths),
         Doing::Streams => 0,
         Doing::Waits => 0,
         Doing::Rests => 0,
@@ -109,17 +124,12 @@ fn column(doing: Doing, widths: Widths) -> usize
 }
 
 // The kind that is answered: `S` for an `I` that scrolls.
-fn shown(doing: Doing, kind: Kind, widths: Widths) -> Kind
-    ensures { λ r. ⌜ r ≡ shownOf doing kind widths ⌝ }
+fn shown(doing: Doing, kind: Kind) -> Kind
+    ensures { λ r. ⌜ r ≡ shownOf doing kind ⌝ }
 {
     match doing {
-        Doing::Shows(_) => {
-            if fits(widths) {
-                return kind;
-            }
-            Kind::S
-        }
-        Doing::Streams => kind,
+        Doing::Shows(_) => kind,
+        Doing::Streams => Kind::S,
         Doing::Waits => kind,
         Doing::Rests => kind,
     }
@@ -136,10 +146,10 @@ pub fn perform(
 ) -> Performed
     ensures { λ r. ⌜ r ≡ answerOf kind number text len widths settings ⌝ }
 {
-    let doing = does(kind);
+    let doing = acts(kind, widths);
     let cost = scans(doing, widths, settings.scans);
     Performed {
-        kind: shown(doing, kind, widths),
+        kind: shown(doing, kind),
         number,
         text,
         len,

@@ -8,13 +8,13 @@ use native.Mathlib.Nat.{mul-le-mul-left, mul-le-mul-right, div-le-of-le-mul}
 use lib.Dec.{eqb}
 use lib.ListN.{length, take, drop, length-take}
 use Rattle.basis.specs.Choice.{when}
-use Rattle.units.specs.Units.{sumOf, scansOf as scansEach, roundedUp, millisOf as millisAt}
+use Rattle.units.specs.Units.{scansOf as scansEach, roundedUp, millisOf as millisAt}
 use Rattle.measure.specs.Width.{fitsOf}
 use Rattle.measure.specs.declared.width.Widths.{Widths}
 use Rattle.program.specs.declared.Kind.{Kind}
 use Rattle.program.specs.declared.Kind.the-variants.{II, IA, IB, S, L, E, F, R, XS, XF, P, Scans, W, XD, XB, Y}
 use Rattle.measure.proofs.Widths.{whole-most}
-use Rattle.perform.specs.Price.{doingOf, shiftsOf, scansOf, millisOf, answerOf}
+use Rattle.perform.specs.Price.{doingOf, streamsOf, actsOf, shiftsOf, scansOf, millisOf, answerOf}
 use Rattle.perform.specs.Settings.{soundOf as settingsSound}
 use Rattle.perform.specs.declared.price.Doing.{Doing}
 use Rattle.perform.specs.declared.price.Doing.the-variants.{Shows, Streams, Waits, Rests}
@@ -33,28 +33,25 @@ use Rattle.course.proofs.Theorem.{finite-ends, finite-stands}
 use Rattle.machine.proofs.Commands.{range-byte}
 use Rattle.machine.proofs.Ranges.{behind-sound, ranged}
 
-shifts-most : (w : Widths) → w .whole ≤ 756 → shiftsOf w ≤ 852
-shifts-most w h = go (eqb (w .whole) 0)
-  where
-    go : (t : Bool) → when t 0 (sumOf (w .whole) 96) ≤ 852
-    go true = omega arith
-    go false = omega arith
-
 -- a scroll of at most 852 shifts at at most 6 scans
 scroll-most : (w : Widths) (k : ℕ) → w .whole ≤ 756 → k ≤ 6 → scansEach (shiftsOf w) k ≤ 5112
 scroll-most w k h hk =
-    let a = shifts-most w h in
+    let a : shiftsOf w ≤ 852 = omega arith in
     let b : shiftsOf w * k ≤ 852 * k = mul-le-mul-right k a in
     let c : scansEach (shiftsOf w) k ≤ shiftsOf w * k = omega arith in
     omega arith
 
-scans-most : (d : Doing) (w : Widths) (k : ℕ) → w .whole ≤ 756 → k ≤ 6 → ((n : ℕ) → d ≡ Shows n → n ≤ 7) → scansOf d w k ≤ 5112
-scans-most (Shows n) w k h hk s = go (fitsOf w) (s n refl) (scroll-most w k h hk)
+streams-most : (t : Bool) (w : Widths) (k : ℕ) → w .whole ≤ 756 → k ≤ 6 → scansOf (when t Rests Streams) w k ≤ 5112
+streams-most true w k h hk = omega arith
+streams-most false w k h hk = scroll-most w k h hk
+
+scans-most : (d : Doing) (w : Widths) (k : ℕ) → w .whole ≤ 756 → k ≤ 6 → ((n : ℕ) → d ≡ Shows n → n ≤ 7) → scansOf (actsOf d w) w k ≤ 5112
+scans-most (Shows n) w k h hk s = go (fitsOf w) (s n refl)
   where
-    go : (t : Bool) → n ≤ 7 → scansEach (shiftsOf w) k ≤ 5112 → when t n (scansEach (shiftsOf w) k) ≤ 5112
-    go true a b = omega arith
-    go false a b = b
-scans-most Streams w k h hk s = scroll-most w k h hk
+    go : (t : Bool) → n ≤ 7 → scansOf (when t (Shows n) (streamsOf w)) w k ≤ 5112
+    go true a = omega arith
+    go false a = streams-most (eqb (w .whole) 0) w k h hk
+scans-most Streams w k h hk s = streams-most (eqb (w .whole) 0) w k h hk
 scans-most Waits w k h hk s = omega arith
 scans-most Rests w k h hk s = omega arith
 
@@ -105,7 +102,7 @@ module _ (b : List ℕ) (size : length b ≤ 84) (p : ℕ) (a : Act) (there : ge
   act-millis : millis (saysOf (act a) σ) ≤ 170401
   unfolding answerOf
   act-millis =
-      millis-most (doingOf (a .kind)) (a .number) (scansOf (doingOf (a .kind)) (a .widths) (σ .scans)) (σ .pace)
+      millis-most (actsOf (doingOf (a .kind)) (a .widths)) (a .number) (scansOf (actsOf (doingOf (a .kind)) (a .widths)) (a .widths) (σ .scans)) (σ .pace)
       (range-byte (a .kind) (a .number) (get-act b p a there .range))
       act-scans
       (ranged σ set .pace-least)

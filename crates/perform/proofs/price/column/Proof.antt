@@ -1,4 +1,3 @@
-use mathlib.Core.Path.{sym, _∙_}
 use borrow.Author.Needs.{needs}
 use Rattle.perform.proofs.price.column.Statement.{statement}
 use Rattle.perform.proofs.price.column.Tie as tie
@@ -6,19 +5,8 @@ use Rattle.perform.proofs.price.column.Tie as tie
 enum-told : tie.Need-enum-told
 enum-told c = search needs
 
-fits-requires : tie.Need-fits-requires
-fits-requires c κs = search needs
-
 start-column-requires : tie.Need-start-column-requires
 start-column-requires c κs = search needs
-
-returns : tie.Need-returns
-returns c =
-    simp (
-      c .before .before .before .enum-told .given .1,
-      sym (c .before .before .fits2 .ensures) ∙ c .before .if1 .taken,
-      c .start-column .ensures,
-    )
 
 enum-told-2 : tie.Need-enum-told-2
 enum-told-2 c = search needs
@@ -29,8 +17,11 @@ enum-told-3 c = search needs
 enum-told-4 : tie.Need-enum-told-4
 enum-told-4 c = search needs
 
+returns : tie.Need-returns
+returns c = simp (c .before .enum-told .given .1, c .start-column .ensures)
+
 returns-2 : tie.Need-returns-2
-returns-2 c = simp (c .before .before .enum-told .given .1, sym (c .before .fits2 .ensures) ∙ c .if1 .left)
+returns-2 c = search needs
 
 returns-3 : tie.Need-returns-3
 returns-3 c = search needs
@@ -38,21 +29,16 @@ returns-3 c = search needs
 returns-4 : tie.Need-returns-4
 returns-4 c = search needs
 
-returns-5 : tie.Need-returns-5
-returns-5 c = search needs
-
 pub column-spec : {M : Type 1} → statement M
 column-spec =
     tie.close
     (tie.spec
     enum-told
-    fits-requires
     start-column-requires
-    returns
     enum-told-2
     enum-told-3
     enum-told-4
+    returns
     returns-2
     returns-3
-    returns-4
-    returns-5)
+    returns-4)

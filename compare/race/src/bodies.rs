@@ -133,22 +133,24 @@ fn letters(random: &mut Random, count: usize) -> Vec<u8> {
 }
 
 /// A byte that any text may hold.
-fn letter(random: &mut Random) -> u8 {
+pub fn letter(random: &mut Random) -> u8 {
     let any = random.within(0x20, 0x7D) as u8;
     let byte = random.pick(&[any, b'A', b' ', 0x7D]);
     if byte == b'^' { b'_' } else { byte }
 }
 
-const FONTS: [(u8, usize); 6] = [(b'D', 6), (b'd', 7), (b'B', 8), (b'b', 9), (b'C', 5), (b'c', 6)];
+/// The letter of each font, the columns of its characters, and how many of these are blank.
+pub const FONTS: [(u8, usize, usize); 6] =
+    [(b'D', 6, 1), (b'd', 7, 2), (b'B', 8, 2), (b'b', 9, 3), (b'C', 5, 1), (b'c', 6, 2)];
 
-/// A text whose width is at the sign's width or beside it.
+/// A text whose widths are at the sign's width or beside it, with the columns that it lacks first or last.
 fn boundary(random: &mut Random) -> Vec<u8> {
-    let mut rest = random.pick(&[94, 95, 96, 96, 97, 98]);
+    let mut rest = random.pick(&[94, 95, 96, 96, 97, 97, 98, 98, 99, 100]);
     let mut text = Vec::new();
     let mut columns = 6;
     while rest >= columns {
         if random.chance(15) {
-            let (font, wide) = random.pick(&FONTS);
+            let (font, wide, _) = random.pick(&FONTS);
             text.extend([b'~', font]);
             columns = wide;
         } else {
@@ -157,13 +159,18 @@ fn boundary(random: &mut Random) -> Vec<u8> {
         }
     }
     if rest > 0 {
-        text.extend(b"~G");
-        text.extend((0..rest).map(|_| graphic(random)));
+        let at = random.pick(&[0, text.len()]);
+        let run: Vec<u8> = (0..rest).map(|_| graphic(random)).collect();
+        text.splice(at..at, [b"~G", run.as_slice()].concat());
+    }
+    if random.chance(30) {
+        text.extend([b'~', random.pick(&FONTS).0]);
     }
     text
 }
 
-fn graphic(random: &mut Random) -> u8 {
+/// A byte that shows one column.
+pub fn graphic(random: &mut Random) -> u8 {
     let any = 0x80 | random.byte();
     random.pick(&[0x80, 0xFE, 0xFF, any])
 }

@@ -1,8 +1,9 @@
 //! How often calls came up on ground where they can easily go wrong: images with one fault only, refusals that must come in
-//! their order, changes of what the one room holds, bytes of a text, what a forecast leaves, and stretches at an edge.
+//! their order, changes of what the one room holds, bytes and widths of a text, what a forecast leaves, and stretches at an edge.
 //! Answers to the C interface's layout of an image and its order of refusals, and to 01 on texts, forecast, repeater.
 
 use crate::case::{After, Case, Function, SHAPES};
+use crate::measured::{Measured, texts_of};
 use crate::records::is_sound;
 use reference::calls::{RECEIVE_ANSWER_SIZE, STEP_ANSWER_SIZE};
 use reference::image::{
@@ -34,12 +35,13 @@ const PACKETS: &[Function] = &[Receive];
 const STEPS: &[Function] = &[Step];
 const JUDGES: &[Function] = &[Judge];
 const FORECASTS: &[Function] = &[Forecast];
+const PRICES: &[Function] = &[Forecast, Step];
 const REPEATS: &[Function] = &[Repeat];
 
 /// What makes an image unsound by itself, then the order of refusals, then what changes the room or must leave it.
-/// After them the bytes of a text, a forecast's refusals, what it leaves, and the edges of what the repeater is told.
+/// After them the bytes of a text, its two widths, a forecast's refusals, what it leaves, and the edges of what the repeater is told.
 #[rustfmt::skip]
-const GROUNDS: [Ground; 54] = [
+const GROUNDS: [Ground; 64] = [
     ground("AUX byte over 1, all else sound", ALL, |case, _| faulty(case, right_aux)),
     ground("Busy with stray collection bytes, all else sound", ALL,
         |case, _| is_busy(case) && faulty(case, no_collection)),
@@ -86,6 +88,24 @@ const GROUNDS: [Ground; 54] = [
     ground("7Fh in a text (24)", JUDGES, |case, after| wrong_in_text(case, after, 24, |byte| byte == 0x7F)),
     ground("a tilde before none of its letters (25)", JUDGES,
         |case, after| wrong_in_text(case, after, 25, |byte| byte == b'~')),
+
+    ground("shown elsewhere than by its whole width, `D` last", STEPS, |case, after| shown_elsewhere(case, after, b'D')),
+    ground("shown elsewhere than by its whole width, `d` last", STEPS, |case, after| shown_elsewhere(case, after, b'd')),
+    ground("shown elsewhere than by its whole width, `B` last", STEPS, |case, after| shown_elsewhere(case, after, b'B')),
+    ground("shown elsewhere than by its whole width, `b` last", STEPS, |case, after| shown_elsewhere(case, after, b'b')),
+    ground("shown elsewhere than by its whole width, `C` last", STEPS, |case, after| shown_elsewhere(case, after, b'C')),
+    ground("shown elsewhere than by its whole width, `c` last", STEPS, |case, after| shown_elsewhere(case, after, b'c')),
+    ground("over 96 whole and shown, a space last", PRICES,
+        |case, after| meets(case, after, |text| text.is_shown() && text.is_over_by_edge() && text.ends_with(b' '))),
+    ground("over 96 whole and shown, a pair of another blank edge after its last character", PRICES,
+        |case, after| meets(case, after,
+            |text| text.is_shown() && text.is_over_by_edge() && text.has_other_edge_after())),
+    ground("97 lit and scrolls, a pair of another blank edge after its last character", PRICES,
+        |case, after| meets(case, after,
+            |text| text.just_scrolls() && !text.ends_in_column() && text.has_other_edge_after())),
+    ground("97 lit and scrolls, a font pair after its last column", PRICES,
+        |case, after| meets(case, after,
+            |text| text.just_scrolls() && text.ends_in_column() && text.has_other_edge_after())),
 
     ground("answer of four or five words, all else right (252)", FORECASTS,
         |case, after| is_no(after, 252) && case.out.len() >= 16 && in_range(case) && is_program(case)),
@@ -191,6 +211,16 @@ fn wrong_in_text(case: &Case, after: &After, no: u32, such: fn(u8) -> bool) -> b
 fn in_text(body: &[u8], place: usize) -> bool {
     let caret = body.get(..place).and_then(|before| before.iter().rposition(|&byte| byte == b'^'));
     caret.is_some_and(|caret| matches!(body.get(caret + 1), Some(b'I' | b'S')))
+}
+
+/// Whether a call performed or priced such a text.
+fn meets(case: &Case, after: &After, such: fn(&Measured) -> bool) -> bool {
+    texts_of(case, after).iter().any(such)
+}
+
+/// Whether a step shows a text that ends in this font where its whole width would not put it.
+fn shown_elsewhere(case: &Case, after: &After, font: u8) -> bool {
+    texts_of(case, after).iter().any(|text| text.ends_in(font) && text.starts_elsewhere())
 }
 
 /// Whether a forecast is asked from settings that there are.

@@ -6,6 +6,7 @@ mod bodies;
 mod case;
 mod damage;
 mod ground;
+mod measured;
 mod names;
 mod numbers;
 mod packets;
@@ -17,6 +18,7 @@ mod shrink;
 mod sizes;
 mod tally;
 mod texts;
+mod widths;
 mod wire;
 
 use damage::Damage;
@@ -53,7 +55,8 @@ fn once(racer: &mut Racer) -> Option<()> {
     sizes::buffers(racer)?;
     sizes::images(racer)?;
     numbers::numbers(racer)?;
-    texts::texts(racer)
+    texts::texts(racer)?;
+    widths::widths(racer)
 }
 
 /// A round of each sort of call; none when the calls are used up.

@@ -4,7 +4,8 @@
 use crate::bodies::NUMBERED;
 use crate::case::{Case, Function};
 use crate::racer::Racer;
-use reference::calls::{self, STEP_ANSWER_SIZE};
+use crate::records::power_on_image;
+use reference::calls::STEP_ANSWER_SIZE;
 use reference::image::{AT_LENGTH, AT_ROOM, IMAGE_SIZE};
 
 /// Each command that takes a number, stepped, which tells the value of a right one, and judged. The list has the pace twice.
@@ -25,9 +26,8 @@ pub fn numbers(racer: &mut Racer) -> Option<()> {
 }
 
 /// The image of a sign just switched on, with this body at its first command.
-fn running(body: &[u8]) -> Vec<u8> {
-    let mut image = vec![0; IMAGE_SIZE];
-    calls::power_on(&mut image);
+fn running(body: &[u8]) -> [u8; IMAGE_SIZE] {
+    let mut image = power_on_image();
     image[AT_ROOM..AT_ROOM + body.len()].copy_from_slice(body);
     image[AT_LENGTH] = body.len() as u8;
     image

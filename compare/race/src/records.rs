@@ -17,6 +17,13 @@ pub fn is_sound(image: &[u8]) -> bool {
     image.is_ok_and(|image| Sign::from_image(image).is_sound())
 }
 
+/// The image of a sign just switched on.
+pub fn power_on_image() -> [u8; IMAGE_SIZE] {
+    let mut image = [0; IMAGE_SIZE];
+    Sign::power_on().write_image(&mut image);
+    image
+}
+
 /// An image of a sound record.
 pub fn sound(random: &mut Random) -> Vec<u8> {
     std::iter::repeat_with(|| record(random)).find(|image| is_sound(image)).unwrap_or_default()

@@ -3,6 +3,7 @@
 
 use crate::case::{Case, Function, differ};
 use crate::packets::mend;
+use crate::records::power_on_image;
 use reference::image::{AT_ID, AT_LENGTH, AT_LOOP_LEFT, AT_LOOP_PLACE, AT_PLACE, AT_ROOM, IMAGE_SIZE};
 
 /// The smallest case that single simplifications lead to.
@@ -34,12 +35,6 @@ fn weight(case: &Case) -> (usize, usize, usize, usize) {
     let numbers = case.numbers.iter().fold(0, |sum: usize, &number| sum.saturating_add(number));
     let sum = image.iter().chain(bytes).chain(out).map(|&byte| usize::from(byte)).sum();
     (lengths, changed + filled, numbers, sum)
-}
-
-fn power_on_image() -> [u8; IMAGE_SIZE] {
-    let mut image = [0; IMAGE_SIZE];
-    reference::sign::Sign::power_on().write_image(&mut image);
-    image
 }
 
 /// The stretches to try to drop from so many bytes, long ones first.

@@ -3,8 +3,10 @@
 
 use crate::case::{After, Case, Function, SHAPES};
 use crate::ground::Grounds;
+use crate::measured::{Measured, texts_of};
+use reference::machine::COLUMNS;
 
-/// A count over the values that one word of an answer, a result, or one byte of what was asked can take.
+/// A count over the values that one word of an answer, a result, one byte of what was asked, or the blank edge of a text can take.
 struct Group {
     name: &'static str,
     function: Function,
@@ -41,6 +43,23 @@ fn lone_byte(case: &Case, _: &After) -> Option<u32> {
     }
 }
 
+/// The blank columns at the end of the first such text that a call met.
+fn edge(case: &Case, after: &After, such: fn(&Measured) -> bool) -> Option<u32> {
+    texts_of(case, after).iter().find(|text| such(text)).map(Measured::edge)
+}
+
+fn edge_over(case: &Case, after: &After) -> Option<u32> {
+    edge(case, after, |text| text.is_shown() && text.is_over_by_edge())
+}
+
+fn edge_at_96(case: &Case, after: &After) -> Option<u32> {
+    edge(case, after, |text| text.is_shown() && text.widths.lit == COLUMNS)
+}
+
+fn edge_at_97(case: &Case, after: &After) -> Option<u32> {
+    edge(case, after, Measured::just_scrolls)
+}
+
 /// Each number of a byte.
 const BYTES: [u32; VALUES] = {
     let mut bytes = [0; VALUES];
@@ -53,7 +72,7 @@ const BYTES: [u32; VALUES] = {
 };
 
 #[rustfmt::skip]
-const GROUPS: [Group; 14] = [
+const GROUPS: [Group; 21] = [
     Group { name: "yd_read_packet, what", function: Function::ReadPacket, read: first_word, expected: &[1, 2, 3] },
     Group { name: "yd_read_reply, Busy", function: Function::ReadReply,
         read: |_, after| yes(after).then(|| after.word(1)), expected: &[0, 1] },
@@ -68,12 +87,26 @@ const GROUPS: [Group; 14] = [
         expected: &[0, 1, 2, 3, 4, 5, 6, 7, 8, 9, 10, 11, 12, 13, 14, 15, 16, 17, 18, 19, 20] },
     Group { name: "yd_forecast, scan setting left, 0 if endless", function: Function::Forecast,
         read: |_, after| yes(after).then(|| after.word(5)), expected: &[0, 1, 2, 3, 4, 5, 6] },
+    Group { name: "yd_forecast, blank edge of an `I` over 96 whole, which is shown", function: Function::Forecast,
+        read: edge_over, expected: &[1, 2, 3] },
+    Group { name: "yd_forecast, blank edge of an `I` of 96 lit, which is shown", function: Function::Forecast,
+        read: edge_at_96, expected: &[0, 1, 2, 3] },
+    Group { name: "yd_forecast, blank edge of an `I` of 97 lit, which scrolls", function: Function::Forecast,
+        read: edge_at_97, expected: &[0, 1, 2, 3] },
     Group { name: "yd_receive, outcome", function: Function::Receive, read: first_word, expected: &[1, 2, 3, 4, 5] },
     Group { name: "yd_receive, number of a released body", function: Function::Receive, read: released,
         expected: &[0, 21, 22, 23, 24, 25, 26, 27] },
     Group { name: "yd_step, kind", function: Function::Step, read: first_word,
         expected: &[0, 1, 2, 3, 4, 5, 6, 7, 8, 9, 10, 11, 12, 13, 14, 15, 16] },
     Group { name: "yd_step, number of an XB", function: Function::Step, read: brightness, expected: &BYTES },
+    Group { name: "yd_step, blank edge of an `I` over 96 whole, which is shown", function: Function::Step,
+        read: edge_over, expected: &[1, 2, 3] },
+    Group { name: "yd_step, blank edge of an `I` of 96 lit, which is shown", function: Function::Step,
+        read: edge_at_96, expected: &[0, 1, 2, 3] },
+    Group { name: "yd_step, blank edge of an `I` of 97 lit, which scrolls", function: Function::Step,
+        read: edge_at_97, expected: &[0, 1, 2, 3] },
+    Group { name: "yd_step, blank edge of an `S` over 96 whole and not lit", function: Function::Step,
+        read: |case, after| edge(case, after, |text| !text.centred && text.is_over_by_edge()), expected: &[1, 2, 3] },
     Group { name: "yd_write_packet, packets in full or not", function: Function::WritePacket,
         read: |case, after| value(case, after).map(|length| u32::from(length == 21)), expected: &[0, 1] },
     Group { name: "yd_repeat, shows the stretch", function: Function::Repeat, read: value, expected: &[0, 1] },

@@ -2,7 +2,7 @@
 //! Answers to 01, "One step, and what it costs", and to the number 17.
 
 use crate::no::{No, Refusal};
-use crate::program::{Command, Kind, Loop, Reader, read_command};
+use crate::program::{Command, Kind, Loop, Reader, Widths, read_command};
 
 /// The columns of the sign.
 pub const COLUMNS: u16 = 96;
@@ -71,8 +71,8 @@ pub struct Step {
 pub(crate) fn perform(command: &Command, settings: &mut Settings) -> Step {
     let kind = performed(command);
     let shown = matches!(kind, Kind::II | Kind::IA | Kind::IB);
-    let column = if shown { (COLUMNS - command.text.width) / 2 } else { 0 };
-    let scans = scans_of(kind, command.text.width, settings);
+    let column = if shown { (COLUMNS - command.text.widths.lit) / 2 } else { 0 };
+    let scans = scans_of(kind, command.text.widths, settings);
     let milliseconds = match kind {
         Kind::W => 100 * u32::from(command.number),
         _ => (200 * scans).div_ceil(5 + u32::from(settings.pace)),
@@ -91,14 +91,14 @@ pub(crate) fn perform(command: &Command, settings: &mut Settings) -> Step {
 
 /// The kind as it is performed: a text too wide to be shown scrolls.
 fn performed(command: &Command) -> Kind {
-    if command.text.width > COLUMNS { Kind::S } else { command.kind }
+    if command.text.widths.lit > COLUMNS { Kind::S } else { command.kind }
 }
 
 /// The scans that a command takes.
-fn scans_of(kind: Kind, width: u16, settings: &Settings) -> u32 {
+fn scans_of(kind: Kind, widths: Widths, settings: &Settings) -> u32 {
     match kind {
         Kind::IA | Kind::IB => SCANS_IN,
-        Kind::S if width > 0 => u32::from(width + COLUMNS) * u32::from(settings.scans),
+        Kind::S if widths.whole > 0 => u32::from(widths.whole + COLUMNS) * u32::from(settings.scans),
         _ => 0,
     }
 }

@@ -1,4 +1,4 @@
-//! The program: one command read at a place, the width of its text, and a whole body judged.
+//! The program: one command read at a place, the widths of its text, and a whole body judged.
 //! Answers to 01, "The program", and to the numbers 21 to 28.
 
 use crate::no::{No, Refusal};
@@ -45,7 +45,24 @@ pub struct Command {
 pub struct Text {
     pub place: u8,
     pub length: u8,
-    pub width: u16,
+    pub widths: Widths,
+}
+
+/// The columns of a text: all of them, and all but the blank ones of its last character.
+#[derive(Clone, Copy, Debug, Default, PartialEq, Eq)]
+pub struct Widths {
+    /// What a scroll goes by.
+    pub whole: u16,
+    /// What fitting and centring go by.
+    pub lit: u16,
+}
+
+impl Widths {
+    /// Adds what is shown next. Until more follows, its blank columns are the edge of the text.
+    fn add(&mut self, shown: Shown) {
+        self.whole += shown.columns;
+        self.lit = self.whole - shown.blank;
+    }
 }
 
 /// The command whose caret stands at this place of a body of at most 84 bytes, or the no that it earns by itself.
@@ -117,11 +134,11 @@ fn read_number(body: &[u8], start: usize, digits: usize) -> Option<(u16, usize)>
     (at > start).then_some((value, at))
 }
 
-/// The text up to the next caret or the end with its width, and the place behind it; or the no of its first wrong byte.
+/// The text up to the next caret or the end with its widths, and the place behind it; or the no of its first wrong byte.
 fn read_text(body: &[u8], place: usize) -> Result<(Text, usize), Refusal> {
-    let mut columns = DEFAULT_COLUMNS;
+    let mut font = FONT_D;
     let mut graphic = false;
-    let mut width = 0;
+    let mut widths = Widths::default();
     let mut at = place;
     while let Some(&byte) = body.get(at).filter(|&&byte| byte != CARET) {
         match byte {
@@ -129,33 +146,43 @@ fn read_text(body: &[u8], place: usize) -> Result<(Text, usize), Refusal> {
                 let letter = body.get(at + 1).copied().unwrap_or(CARET);
                 graphic = letter == b'G';
                 if !graphic {
-                    columns = columns_of(letter).ok_or(Refusal::at(No::Tilde, at))?;
+                    font = font_of(letter).ok_or(Refusal::at(No::Tilde, at))?;
                 }
                 at += 1;
             }
             0x20..TILDE => {
                 graphic = false;
-                width += columns;
+                widths.add(font);
             }
-            0x80.. if graphic => width += 1,
+            0x80.. if graphic => widths.add(GRAPHIC),
             _ => return Err(Refusal::at(No::Forbidden, at)),
         }
         at += 1;
     }
-    Ok((Text { place: place as u8, length: (at - place) as u8, width }, at))
+    Ok((Text { place: place as u8, length: (at - place) as u8, widths }, at))
 }
 
-const DEFAULT_COLUMNS: u16 = 6;
+/// The columns of one byte that is shown, and how many of them are blank, on its right.
+#[derive(Clone, Copy)]
+struct Shown {
+    columns: u16,
+    blank: u16,
+}
 
-/// The columns of a character in the font of this letter, its blanks counted.
-fn columns_of(font: u8) -> Option<u16> {
-    match font {
-        b'D' => Some(DEFAULT_COLUMNS),
-        b'd' => Some(7),
-        b'B' => Some(8),
-        b'b' => Some(9),
-        b'C' => Some(5),
-        b'c' => Some(6),
+const GRAPHIC: Shown = Shown { columns: 1, blank: 0 };
+
+/// A character in the font that each text begins in.
+const FONT_D: Shown = Shown { columns: 6, blank: 1 };
+
+/// A character in the font of this letter.
+fn font_of(letter: u8) -> Option<Shown> {
+    match letter {
+        b'D' => Some(FONT_D),
+        b'd' => Some(Shown { columns: 7, blank: 2 }),
+        b'B' => Some(Shown { columns: 8, blank: 2 }),
+        b'b' => Some(Shown { columns: 9, blank: 3 }),
+        b'C' => Some(Shown { columns: 5, blank: 1 }),
+        b'c' => Some(Shown { columns: 6, blank: 2 }),
         _ => None,
     }
 }

@@ -76,6 +76,8 @@ fn forecasts_in_six_words() {
     assert_eq!(told(b"^L3^P7^=2^E", 4, 1), [0, 10, 0, 0, 7, 2, 0xEEEEEEEE]);
     assert_eq!(told(b"^SHI^R", 4, 1), [1, 0, 0, 0, 0, 0, 0xEEEEEEEE]);
     assert_eq!(told(b"^P9^=2^L3^SHI^F", 4, 1), [1, 0, 0, 0, 0, 0, 0xEEEEEEEE]);
+    assert_eq!(told(b"^IA0123456789ABCDE~dF", 4, 1), [0, 1, 7, 156, 4, 1, 0xEEEEEEEE]);
+    assert_eq!(told(b"^S0123456789ABCDE~dF", 4, 1), [0, 1, 193, 4289, 4, 1, 0xEEEEEEEE]);
     let mut answer = [0xEE; 28];
     assert_eq!(calls::forecast(b"^P9^P21", 4, 1, &mut answer), 3 << 8 | 23);
     assert_eq!(answer, [0xEE; 28]);
@@ -92,8 +94,8 @@ fn the_repeater_tells_which_in_its_value() {
 }
 
 #[test]
-fn the_version_is_1_0_2() {
-    assert_eq!(calls::version(), 16_777_728);
+fn the_version_is_1_1_0() {
+    assert_eq!(calls::version(), 16_842_752);
 }
 
 #[test]
@@ -115,4 +117,17 @@ fn a_message_from_line_to_end() {
     let mut expected = power_on();
     expected[0] = 5;
     assert_eq!(image, expected);
+}
+
+#[test]
+fn a_text_over_the_sign_by_its_blank_edge_is_shown() {
+    let mut image = power_on();
+    let mut answer = [0xEE; 104];
+    let mut out = [0; 35];
+    assert_eq!(calls::write_transmission(0x80, 5, b"^IB0123456789ABCDE~dF", &mut out), 35 << 8);
+    for packet in out.chunks(21) {
+        assert_eq!(calls::receive(&mut image, 0x80, packet, &mut answer), 0);
+    }
+    assert_eq!(calls::step(&mut image, &mut answer), 0);
+    assert_eq!(words(&answer), [3, 0, 3, 18, 0, 7, 156]);
 }

@@ -71,6 +71,13 @@ fn prices() {
     assert_eq!(totals(b"^S"), (1, 0, 0));
     assert_eq!(totals(b"^IAHI"), (1, 7, 156));
     assert_eq!(totals(b"^=6^P1^SA"), (3, 612, 20400));
+    assert_eq!(totals(&over_by_its_edge(b"^IA")), (1, 7, 156));
+    assert_eq!(totals(&over_by_its_edge(b"^S")), (1, 193, 4289));
+}
+
+/// A text of 97 columns whole and 95 lit, after these letters.
+fn over_by_its_edge(letters: &[u8]) -> Vec<u8> {
+    [letters, &[b'A'; 15], b"~dA"].concat()
 }
 
 fn first_step(body: &[u8]) -> reference::machine::Step {
@@ -90,6 +97,11 @@ fn columns_of_shown_texts() {
     assert_eq!((fits.kind.map(|kind| kind as u8), fits.column, fits.scans), (Some(1), 0, 0));
     let scrolls = first_step(b"^II0123456789ABCDEFG");
     assert_eq!((scrolls.kind.map(|kind| kind as u8), scrolls.column, scrolls.scans), (Some(4), 0, 102 + 96));
+    let over = first_step(&over_by_its_edge(b"^II"));
+    assert_eq!((over.kind.map(|kind| kind as u8), over.column), (Some(1), 0));
+    let widest = first_step(b"^II~bAAAAAAAAAAA");
+    assert_eq!((widest.kind.map(|kind| kind as u8), widest.column), (Some(1), 0));
+    assert_eq!(first_step(b"^IIA~b").column, 45);
 }
 
 #[test]

@@ -52,10 +52,10 @@ fn a_step_tells_all_it_did() {
 
 #[test]
 fn a_wide_text_scrolls() {
-    let mut sign = running(b"^IA~b01234567890", 20, 3);
+    let mut sign = running(b"^IA~b012345678901", 20, 3);
     let step = sign.step().unwrap();
-    assert_eq!((step.kind, step.place, step.length, step.column), (Some(Kind::S), 3, 13, 0));
-    assert_eq!((step.scans, step.milliseconds), ((99 + 96) * 3, (200 * 585u32).div_ceil(25)));
+    assert_eq!((step.kind, step.place, step.length, step.column), (Some(Kind::S), 3, 14, 0));
+    assert_eq!((step.scans, step.milliseconds), ((108 + 96) * 3, 4896));
     let mut sign = running(b"^II~C0123456789012345678~G\x80", 20, 3);
     let step = sign.step().unwrap();
     assert_eq!((step.kind, step.column, step.scans), (Some(Kind::II), 0, 0));
@@ -182,7 +182,7 @@ impl Dice {
 }
 
 fn thrown_body(dice: &mut Dice) -> Vec<u8> {
-    const PIECES: [&[u8]; 16] = [
+    const PIECES: [&[u8]; 18] = [
         b"^L3",
         b"^L99",
         b"^L1",
@@ -198,6 +198,8 @@ fn thrown_body(dice: &mut Dice) -> Vec<u8> {
         b"^IAHI",
         b"^W9",
         b"^II0123456789ABCDEFG",
+        b"^IA0123456789ABCDE~dF",
+        b"^IB~b0123456789A~D",
         b"^S~bHELLO",
     ];
     let mut body = Vec::new();

@@ -1,4 +1,4 @@
-//! Bodies judged: the order of the numbers, the places, the widths.
+//! Bodies judged: the order of the numbers, the places.
 //! Answers to 01, "The program".
 
 use reference::program::{Command, Kind, Reader, judge};
@@ -206,30 +206,6 @@ fn loops_and_ends() {
 fn commands(body: &[u8]) -> Vec<Command> {
     let mut reader = Reader::begin(body).unwrap();
     std::iter::from_fn(|| reader.next_command().unwrap()).collect()
-}
-
-#[test]
-fn widths() {
-    let cases: [(&[u8], u16); 12] = [
-        (b"", 0),
-        (b"A", 6),
-        (b"A ", 12),
-        (b"~DA", 6),
-        (b"~dA", 7),
-        (b"~BA", 8),
-        (b"~bA", 9),
-        (b"~CA", 5),
-        (b"~cA", 6),
-        (b"~G\x80\xFF", 2),
-        (b"~bA~G\x80A", 19),
-        (b"~bAA^S", 18),
-    ];
-    for (text, width) in cases {
-        for letters in ["^S", "^II"] {
-            let body = [letters.as_bytes(), text].concat();
-            assert_eq!(commands(&body)[0].text.width, width, "{}", body.escape_ascii());
-        }
-    }
 }
 
 #[test]

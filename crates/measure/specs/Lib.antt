@@ -1,3 +1,4 @@
+pub mod Before
 pub mod Capped
 pub mod Edge
 pub mod Width

@@ -11,7 +11,9 @@ use borrow.Author.Tests.{le-leb, leb-false, ne-eqb}
 use Rattle.basis.specs.Choice.{when}
 use Rattle.units.specs.Units.{scansOf as scansEach, roundedUp, millisOf as millisAt}
 use Rattle.measure.specs.Width.{widthsOf, fitsOf}
+use Rattle.measure.specs.Before.{widthBefore}
 use Rattle.measure.proofs.Edges.{fitted-fits}
+use Rattle.measure.proofs.Same.{whole-before}
 use Rattle.measure.specs.declared.width.Widths.{Widths}
 use Rattle.program.specs.declared.Kind.{Kind}
 use Rattle.program.specs.declared.Kind.the-variants.{II, IA, IB, S, L, E, F, R, XS, XF, P, Scans, W, XD, XB, Y}
@@ -162,8 +164,11 @@ module _ (k : Kind) (number text len : ℕ) (w : Widths) (σ : Settings) where
       go Rests e = refl
 
 -- so whatever text fitted in version 1.0 is shown at the same price, from a column of its own
-pub same-if-fitted : (k : Kind) (number text len : ℕ) (s : List ℕ) (σ : Settings) → widthsOf s .whole ≤ 96
+pub same-if-fitted : (k : Kind) (number text len : ℕ) (s : List ℕ) (σ : Settings) → widthBefore s ≤ 96
     → answerOf k number text len (widthsOf s) σ
-    ≡ fromColumn (answerOf k number text len (widthsOf s) σ .column) (answerBefore k number text len (widthsOf s .whole) σ)
+    ≡ fromColumn (answerOf k number text len (widthsOf s) σ .column) (answerBefore k number text len (widthBefore s) σ)
 same-if-fitted k number text len s σ h =
-    same-but-column k number text len (widthsOf s) σ (fitted-fits s h ∙ sym (le-leb (widthsOf s .whole) 96 h))
+    let e = whole-before s in
+    let fitted : widthsOf s .whole ≤ 96 = omega arith in
+    same-but-column k number text len (widthsOf s) σ (fitted-fits s fitted ∙ sym (le-leb (widthsOf s .whole) 96 fitted))
+    ∙ ap (λ (n : ℕ). fromColumn (answerOf k number text len (widthsOf s) σ .column) (answerBefore k number text len n σ)) e

@@ -85,8 +85,7 @@ pub fn measure(text: &[u8]) -> Widths
     }
 }
 
-// The widths of the text of so many bytes that stands at a place of a body, as far as the body reaches. They are laid into a struct of
-// their own, which the compiler then holds in registers.
+// The widths of the text of so many bytes that stands at a place of a body, as far as the body reaches.
 pub fn measure_at(body: &[u8], place: usize, len: usize) -> Widths
     ensures { λ r. ⌜ r ≡ countedOf (widthsOf (take len (drop place (now (body .entry))))) ⌝ }
 {
@@ -94,11 +93,7 @@ pub fn measure_at(body: &[u8], place: usize, len: usize) -> Widths
         return Widths { whole: 0, lit: 0 };
     }
     let count = least(body.len() - place, len);
-    let got = measure(&body[place..place + count]);
-    Widths {
-        whole: got.whole,
-        lit: got.lit,
-    }
+    measure(&body[place..place + count])
 }
 
 // Whether a text of these widths fits the sign: it goes by the lit width.

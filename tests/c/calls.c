@@ -402,7 +402,7 @@ static void read_reply(void)
 #define THIRTY_NINE_S TEN_S TEN_S TEN_S "^S^S^S^S^S^S^S^S^S"
 #define SIXTEEN "ABCDEFGHIJKLMNOP"
 
-/* Texts of 97 columns of which 95 can be lit, and of 100 of which 97 can. */
+/* Texts of 97 columns, 95 without the blank edge, and of 100, 97 without it. */
 #define EDGE "ABCDEFGHIJKLMNO~dP"
 #define WIDE "~dABCDEFGHIJKLM~bN"
 

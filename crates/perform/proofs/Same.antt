@@ -1,5 +1,5 @@
 -- The answers that C-13 left alone: where a text fits by both widths or by neither, only its start column may differ from version
--- 1.0; where both widths are one, or the command shows no text at once, nothing does.
+-- 1.0; where both widths are one, or the command is no `II`, `IA` or `IB`, nothing does.
 use Prim.Native.Nat.{ℕ, _+_, _-_, _*_, _/_, _≤_, _<_}
 use mathlib.Core.Bool.{Bool, true, false}
 use mathlib.Core.Path.{_≡_, refl, sym, ap, _∙_}

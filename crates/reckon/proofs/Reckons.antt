@@ -31,7 +31,7 @@ use Rattle.reckon.specs.declared.reckon.Reckoned.{Reckoned}
 use Rattle.totals.specs.declared.Totals.{Totals}
 use Rattle.machine.proofs.Commands.{says-is}
 
--- a text of no bytes has no width
+-- both widths of a text of no bytes are 0
 pub widths-none : (b : List ℕ) (p n : ℕ) → n ≡ 0 → _≡_ {A = Widths} (record { whole = 0; lit = 0 }) (countedOf (widthsOf (take n (drop p b))))
 widths-none b p n e = ap (λ (k : ℕ). countedOf (widthsOf (take k (drop p b)))) (sym e)
 

@@ -7,11 +7,11 @@ use native.Mathlib.Omega.{arith}
 use lib.Dec.{eqb, leb}
 use Rattle.basis.specs.Choice.{when}
 use Rattle.params.specs.Bytes.{tilde}
-use Rattle.measure.specs.Width.{font, fontOf, switchedOf, measured, withByte, withAll, measuredOf, widthsOf}
+use Rattle.measure.specs.Width.{font, fontOf, measured, withByte, withAll, measuredOf, widthsOf}
 use Rattle.measure.specs.Before.{fontColumns, columnsBefore, eachBefore, widthFrom, widthBefore}
 use Rattle.measure.specs.declared.fonts.Font.{Font}
 use Rattle.measure.specs.declared.width.Measured.{Measured}
-use Rattle.measure.proofs.Widths.{with-last}
+use Rattle.measure.proofs.Widths.{with-last, withBy}
 
 -- a font's columns
 either : (t : Bool) (f g : Font) (a b : ℕ) → f .columns ≡ a → g .columns ≡ b → (when t f g) .columns ≡ when t a b
@@ -27,16 +27,10 @@ font-columns x =
 
 -- one byte more
 module _ (m : Measured) (x : ℕ) where
-  abbrev by : Bool → Bool → Bool → Measured
-  by t u v =
-      when t (measured (switchedOf (m .font) x) x (m .whole) (m .edge))
-      (when u (measured (m .font) x (m .whole) (m .edge))
-      (when v (measured (m .font) x (m .whole + 1) 0) (measured (m .font) x (m .whole + m .font .columns) (m .font .blank))))
-
   with-whole : withByte m x .whole ≡ m .whole + columnsBefore (m .font .columns) (m .last) x
   with-whole = go (eqb (m .last) tilde) (eqb x tilde) (leb 0x80 x)
     where
-      go : (t u v : Bool) → by t u v .whole ≡ m .whole + when t 0 (when u 0 (when v 1 (m .font .columns)))
+      go : (t u v : Bool) → withBy t u v m x .whole ≡ m .whole + when t 0 (when u 0 (when v 1 (m .font .columns)))
       go true u v = omega arith
       go false true v = omega arith
       go false false true = refl
@@ -45,7 +39,7 @@ module _ (m : Measured) (x : ℕ) where
   with-each : withByte m x .font .columns ≡ eachBefore (m .font .columns) (m .last) x
   with-each = go (eqb (m .last) tilde) (eqb x tilde) (leb 0x80 x)
     where
-      go : (t u v : Bool) → by t u v .font .columns ≡ when t (when (eqb x 0x47) (m .font .columns) (fontColumns x)) (m .font .columns)
+      go : (t u v : Bool) → withBy t u v m x .font .columns ≡ when t (when (eqb x 0x47) (m .font .columns) (fontColumns x)) (m .font .columns)
       go true u v = either (eqb x 0x47) (m .font) (fontOf x) _ _ refl (font-columns x)
       go false true v = refl
       go false false true = refl

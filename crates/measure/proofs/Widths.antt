@@ -139,16 +139,17 @@ top-kept f last whole edge =
     let a : min (min whole most) most ≡ min whole most = omega arith in
     ap (λ (n : ℕ). measured f last n edge) a
 
+-- one byte more, by its three tests: a letter behind a tilde, a tilde, a graphic byte
+abbrev pub withBy : (letter tilde graphic : Bool) → Measured → ℕ → Measured
+withBy t u v m x =
+    when t (measured (switchedOf (m .font) x) x (m .whole) (m .edge))
+    (when u (measured (m .font) x (m .whole) (m .edge))
+    (when v (measured (m .font) x (m .whole + 1) 0) (measured (m .font) x (m .whole + m .font .columns) (m .font .blank))))
+
 top-with : (m : Measured) (x : ℕ) → toppedOf (withByte (toppedOf m) x) ≡ toppedOf (withByte m x)
 top-with m x = go (eqb (m .last) tilde) (eqb x tilde) (leb 0x80 x)
   where
-    by : Bool → Bool → Bool → Measured → Measured
-    by t u v n =
-        when t (measured (switchedOf (n .font) x) x (n .whole) (n .edge))
-        (when u (measured (n .font) x (n .whole) (n .edge))
-        (when v (measured (n .font) x (n .whole + 1) 0) (measured (n .font) x (n .whole + n .font .columns) (n .font .blank))))
-
-    go : (t u v : Bool) → toppedOf (by t u v (toppedOf m)) ≡ toppedOf (by t u v m)
+    go : (t u v : Bool) → toppedOf (withBy t u v (toppedOf m) x) ≡ toppedOf (withBy t u v m x)
     go true u v = top-kept (switchedOf (m .font) x) x (m .whole) (m .edge)
     go false true v = top-kept (m .font) x (m .whole) (m .edge)
     go false false true = top-again (m .font) x (m .whole) 0 1

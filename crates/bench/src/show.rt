@@ -16,7 +16,7 @@ fn heard(sign: Sign, bytes: &[u8], n: usize) -> Sign {
 // The packet of a body at a position, written and received; the sign as it was where there is no such packet.
 fn carried(sign: Sign, body: &[u8], position: u8) -> Sign {
     let mut out = [0u8; 21];
-    let wrote = transmission::write_packet(0x80, 5, body, position, &mut out);
+    let wrote = packet::write_packet(0x80, 5, body, position, &mut out);
     match wrote {
         Written::Wrote(n) => heard(sign, &out, n),
         Written::Refused(_) => sign,

@@ -1,10 +1,10 @@
 // Packets and replies for C, read (W9, W12) and written (W13 to W18).
+use packet::write_packet;
 use packet::write_query;
 use packet::write_reset;
 use reader::read_packet;
 use reply::read_reply;
 use reply::write_reply;
-use transmission::write_packet;
 use transmission::write_transmission;
 use words::tell_reading;
 use words::tell_status;

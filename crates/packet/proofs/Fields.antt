@@ -1,19 +1,15 @@
--- The fields of a normal packet, part by part, and what its writer makes of them.
+-- The fields of a normal packet, part by part.
 use Prim.Native.Nat.{ℕ, _+_, _≤_, _<_}
-use mathlib.Core.Path.{_≡_, refl, sym, ap, _∙_}
-use mathlib.Core.List.{List}
-use mathlib.Core.Bool.{Bool, true, false}
+use mathlib.Core.Path.{_≡_, sym, ap, _∙_}
+use mathlib.Core.Bool.{Bool, true}
 use mathlib.Core.Logic.{dite}
 use native.Mathlib.Decide.{decLt}
 use native.Mathlib.Omega.{arith}
-use lib.ListN.{length}
 use lib.Dec.{eqb, ltb, leb}
 use borrow.Author.Tests.{le-leb, lt-ltb, eq-eqb, ne-eqb, leb-true, ltb-true, eqb-true}
-use Rattle.basis.specs.Bytes.{laid}
-use Rattle.basis.specs.Choice.{when, _and_, _or_, within}
+use Rattle.basis.specs.Choice.{_and_, _or_, within}
 use Rattle.basis.proofs.Choices.{and-true, and-parts, within-parts, within-true}
-use Rattle.packet.specs.Wire.{fifthOf, packetOf}
-use Rattle.packet.specs.Write.{rightFields, normalFits, normalIn}
+use Rattle.packet.specs.Write.{rightFields}
 
 -- right fields, part by part
 pub record Right (id total position count : ℕ) : Type 0 where
@@ -61,23 +57,3 @@ module _ (id total position count : ℕ) where
       (and-true (within 1 count 14) _ (within-true 1 count 14 (r .some) (r .few))
       (and-true (within 1 total 6) _ (within-true 1 total 6 (r .least) (r .most))
       (and-true (ltb position total) _ (lt-ltb position total (r .below)) (of-full (r .below) (r .full)))))
-
-module _ (mid id total position : ℕ) (part out : List ℕ) where
-  -- both outcomes of the writer, by whether it writes
-  pub normal-done : (t : Bool) → normalFits id total position part out ≡ t
-      → (t ≡ normalFits id total position part out)
-      × (when t (laid (packetOf mid id (fifthOf total position) part) out) out ≡ normalIn mid id total position part out)
-  normal-done t e = (sym e, ap (λ (b : Bool). when b (laid (packetOf mid id (fifthOf total position) part) out) out) (sym e))
-
-  -- wrong fields, or too little room
-  pub normal-wrong : rightFields id total position (length part) ≡ false → normalFits id total position part out ≡ false
-  normal-wrong e = ap (λ (t : Bool). t and leb (length part + 7) (length out)) e
-
-  pub normal-short : rightFields id total position (length part) ≡ true → leb (length part + 7) (length out) ≡ false
-      → normalFits id total position part out ≡ false
-  normal-short e short = ap (λ (t : Bool). t and leb (length part + 7) (length out)) e ∙ short
-
-  -- right fields and room
-  pub normal-fits : rightFields id total position (length part) ≡ true → length part + 7 ≤ length out
-      → normalFits id total position part out ≡ true
-  normal-fits e room = and-true (rightFields id total position (length part)) _ e (le-leb (length part + 7) (length out) room)

@@ -3,7 +3,7 @@ use Prim.Native.Nat.{ℕ, suc, _+_, _-_, _*_, _≤_, _<_, min}
 use mathlib.Core.Path.{_≡_, sym, ap, _∙_}
 use mathlib.Core.List.{List, [], _∷_}
 use native.Mathlib.Omega.{arith}
-use mathlib.Core.Bool.{Bool, true}
+use mathlib.Core.Bool.{Bool}
 use borrow.Author.Tests.{lt-ltb, le-ltb}
 use lib.ListN.{length, take, drop, length-take, length-drop}
 use native.Mathlib.Numerals.{add-one}
@@ -12,14 +12,12 @@ use lib.Dec.{ltb}
 use Rattle.basis.specs.Bytes.{laid}
 use Rattle.basis.specs.Choice.{when}
 use Rattle.basis.specs.Rows.{Row, firstOf}
-use Rattle.basis.proofs.Choices.{when-true}
 use Rattle.basis.proofs.Laid.{laid-lent, length-laid}
 use Rattle.basis.proofs.Tests.{tests}
 use Rattle.packet.specs.Wire.{fifthOf, totalOf, partOf, packetOf, packetAt, packetsOf, transmissionOf}
-use Rattle.packet.specs.Write.{Writes, answerOf, bufferOf, normalFits, normalIn, shortBy, packetRows, transmissionRows}
+use Rattle.packet.specs.Write.{Writes, answerOf, bufferOf, shortBy, packetRows, transmissionRows}
 use Rattle.packet.specs.declared.write.Written.{Written}
 use Rattle.packet.specs.declared.write.Written.the-variants.{Wrote, Refused}
-use Rattle.packet.proofs.Fields.{parts-right, normal-fits}
 use Rattle.packet.proofs.Parts.{packet-length, part-length, part-cut, packets-length, transmission-length}
 
 module _ (rows : List Row) (bytes out : List ℕ) where
@@ -59,35 +57,15 @@ module _ (mid id : ℕ) (body out : List ℕ) (some : length body ≡ 0 → ⊥)
         refused (packetRows mid id body position out) (packetAt mid id body position) out 33
         (packet-room ∙ ap (λ (b : Bool). when b 34 0) (lt-ltb (length out) (len + 7) short))
 
-    module _ (part : List ℕ) (room : len + 7 ≤ length out)
-        (ep : part ≡ take (14 * position + len - 14 * position) (drop (14 * position) body)) where
-      -- where there is room, the fields of a body's packet are ones that are written
-      pub packet-fits : normalFits id (totalOf body) position part out ≡ true
-      packet-fits =
-          let size : length part ≡ len = ap length (ep ∙ part-cut body position len cut) ∙ omega (arith, part-length body position) in
-          normal-fits mid id (totalOf body) position part out
-          (parts-right id (totalOf body) position (length part)
-          (record {
-            normal = normal;
-            some = omega arith;
-            few = omega arith;
-            least = omega arith;
-            most = omega arith;
-            below = below;
-            full = λ more. omega arith;
-          }))
-          (omega arith)
-
-      pub packet-wrote : (after : List ℕ) → after ≡ normalIn mid id (totalOf body) position part out
-          → Writes (packetRows mid id body position out) (packetAt mid id body position) out (Wrote (len + 7)) after
-      packet-wrote after ea =
-          wrote (packetRows mid id body position out) (packetAt mid id body position) out (len + 7) after
-          (packet-room ∙ ap (λ (b : Bool). when b 34 0) (le-ltb (length out) (len + 7) room))
-          (sym packet-size)
-          (ea
-          ∙ when-true (normalFits id (totalOf body) position part out) (laid (packetOf mid id (fifthOf (totalOf body) position) part) out) out packet-fits
-          ∙ ap (λ (p : List ℕ). laid (packetOf mid id (fifthOf (totalOf body) position) p) out)
-          (ep ∙ part-cut body position len cut))
+    pub packet-wrote : (part after : List ℕ) → len + 7 ≤ length out
+        → part ≡ take (14 * position + len - 14 * position) (drop (14 * position) body)
+        → after ≡ laid (packetOf mid id (fifthOf (totalOf body) position) part) out
+        → Writes (packetRows mid id body position out) (packetAt mid id body position) out (Wrote (len + 7)) after
+    packet-wrote part after room ep ea =
+        wrote (packetRows mid id body position out) (packetAt mid id body position) out (len + 7) after
+        (packet-room ∙ ap (λ (b : Bool). when b 34 0) (le-ltb (length out) (len + 7) room))
+        (sym packet-size)
+        (ea ∙ ap (λ (p : List ℕ). laid (packetOf mid id (fifthOf (totalOf body) position) p) out) (ep ∙ part-cut body position len cut))
 
   -- and the same of a transmission
   transmission-room : firstOf (transmissionRows mid id body out)

@@ -9,7 +9,7 @@ use Rattle.basis.specs.Bytes.{laid}
 use Rattle.basis.specs.Choice.{when, _and_, _or_, within}
 use Rattle.basis.specs.Rows.{Row, _if_, firstOf}
 use Rattle.basis.specs.Told.{Told, yes, no}
-use Rattle.packet.specs.Wire.{fifthOf, packetOf, totalOf, packetAt, transmissionOf}
+use Rattle.packet.specs.Wire.{totalOf, packetAt, transmissionOf}
 use Rattle.packet.specs.declared.write.Written.{Written}
 use Rattle.packet.specs.declared.write.Written.the-variants.{Wrote, Refused}
 
@@ -21,16 +21,6 @@ badBody body = eqb (length body) 0 or ltb 84 (length body)
 abbrev pub rightFields : (id total position count : ℕ) → Bool
 rightFields id total position count =
     leb id 0x3F and within 1 count 14 and within 1 total 6 and ltb position total and (eqb (position + 1) total or eqb count 14)
-
--- whether a packet of these fields is written: the fields are right, and the buffer has room for the data and seven bytes more
-abbrev pub normalFits : (id total position : ℕ) → (part out : List ℕ) → Bool
-normalFits id total position part out =
-    rightFields id total position (length part) and leb (length part + 7) (length out)
-
--- the buffer after that: the packet at its front, or as it was
-abbrev pub normalIn : (mid id total position : ℕ) → (part out : List ℕ) → List ℕ
-normalIn mid id total position part out =
-    when (normalFits id total position part out) (laid (packetOf mid id (fifthOf total position) part) out) out
 
 -- 34: the buffer is shorter than what is to be written
 abbrev pub shortBy : List ℕ → List ℕ → Row

@@ -1,13 +1,13 @@
-// The wire: one packet written. The crate `transmission` writes a body as packets, `reader` reads packets, and `reply`
-// writes and reads the sign's answer.
+// The wire: one packet written. The crate `transmission` writes all packets of a body, `reader` reads packets, and
+// `reply` writes and reads the sign's answer.
 //   sum     the sum by additions that drop the carry, and the byte that brings it to 0      W7, P8
-//   write   a normal packet of given fields, a query, a reset                               W1 to W6, W13, N34
+//   write   one packet of a body, a query, a reset              W1 to W6, W13 to W15, W17, W18, N31 to N34
 mod sum;
 mod write;
 
 pub use sum::checksum;
 pub use sum::sum_of;
 pub use write::Written;
-pub use write::write_normal;
+pub use write::write_packet;
 pub use write::write_query;
 pub use write::write_reset;

@@ -1,13 +1,13 @@
-// Writes one normal packet of given fields, a query or a reset, into a lent buffer: W1 to W6, W13 and N34. A refusal
-// changes no byte, and bytes after the written ones stay.
+// Writes one packet of a body, a query or a reset into a lent buffer: W1 to W6, W13 to W15, W17 and W18, with N31 to N34.
+// A refusal changes no byte, and bytes after the written ones stay.
 use crate::sum::negated;
 ghost use mathlib.Core.Path.{_≡_};
 ghost use mathlib.Core.List.{[], _∷_};
-ghost use Prim.Native.Nat.{_+_, _%_, _≤_};
+ghost use Prim.Native.Nat.{_+_, _%_, _≤_, min};
 ghost use lib.ListN.{length, take};
 ghost use Rattle.basis.specs.Bytes.{sum, laid};
-ghost use Rattle.packet.specs.Wire.{sealed, packetOf, queryOf, resetOf};
-ghost use Rattle.packet.specs.Write.{Writes, shortBy, rightFields, normalFits, normalIn};
+ghost use Rattle.packet.specs.Wire.{sealed, packetOf, packetAt, queryOf, resetOf};
+ghost use Rattle.packet.specs.Write.{Writes, shortBy, packetRows};
 
 // How many bytes were written, or the number for no.
 pub enum Written {
@@ -76,49 +76,41 @@ fn write_fields(mid: u8, id: u8, fifth: u8, part: &[u8], out: &mut [u8])
     seal(std::num::wrapping_add_u8(front, data), len + 5, out);
 }
 
-// Whether these are fields of a normal packet, with so many bytes of data.
-fn right(id: u8, total: u8, position: u8, count: usize) -> bool
-    ensures { λ r. ⌜ r ≡ rightFields id total position count ⌝ }
+// The lesser of two numbers.
+fn lesser(a: usize, b: usize) -> usize
+    ensures { λ r. ⌜ r ≡ min a b ⌝ }
 {
-    if 0x3f < id {
-        return false;
-    }
-    if count < 1 {
-        return false;
-    }
-    if 14 < count {
-        return false;
-    }
-    if total < 1 {
-        return false;
-    }
-    if 6 < total {
-        return false;
-    }
-    if total <= position {
-        return false;
-    }
-    if position + 1 == total {
-        return true;
-    }
-    count == 14
+    if a < b { a } else { b }
 }
 
-// The normal packet of these fields, and whether it was written: only fields that the reader accepts, and with room for them.
-pub fn write_normal(mid: u8, id: u8, total: u8, position: u8, part: &[u8], out: &mut [u8]) -> bool
-    ensures answered { λ r. ⌜ r ≡ normalFits id total position (now (part .entry)) (now (out .entry)) ⌝ }
-    ensures left { λ _. ⌜ now (out .exit) ≡ normalIn mid id total position (now (part .entry)) (now (out .entry)) ⌝ }
+// The packet at one position of a body.
+pub fn write_packet(mid: u8, id: u8, body: &[u8], position: u8, out: &mut [u8]) -> Written
+    ensures { λ r. ⌜ Writes (packetRows mid id (now (body .entry)) position (now (out .entry))) (packetAt mid id (now (body .entry)) position) (now (out .entry)) r (now (out .exit)) ⌝ }
 {
-    let len = part.len();
-    if !right(id, total, position, len) {
-        return false;
+    let n = body.len();
+    if n == 0 {
+        return Written::Refused(31);
     }
+    if 84 < n {
+        return Written::Refused(31);
+    }
+    if 0x3f < id {
+        return Written::Refused(32);
+    }
+    let total = (n + 13) / 14;
+    let at = position as usize;
+    if total <= at {
+        return Written::Refused(33);
+    }
+    let from = 14 * at;
+    let len = lesser(n - from, 14);
+    let to = from + len;
     if out.len() < len + 7 {
-        return false;
+        return Written::Refused(34);
     }
-    let fifth = 16 * total + position;
-    write_fields(mid, id, fifth, part, out);
-    true
+    let fifth = 16 * total as u8 + position;
+    write_fields(mid, id, fifth, &body[from..to], out);
+    Written::Wrote(len + 7)
 }
 
 // A packet without data: a query or a reset.

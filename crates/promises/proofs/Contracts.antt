@@ -27,9 +27,9 @@ use Rattle.packet.proofs.write_query.Reads as write-query-reads
 use Rattle.packet.proofs.write_reset
 use Rattle.packet.proofs.write_reset.Kinds as write-reset-kinds
 use Rattle.packet.proofs.write_reset.Reads as write-reset-reads
-use Rattle.transmission.proofs.write_packet
-use Rattle.transmission.proofs.write_packet.Kinds as write-packet-kinds
-use Rattle.transmission.proofs.write_packet.Reads as write-packet-reads
+use Rattle.packet.proofs.write_packet
+use Rattle.packet.proofs.write_packet.Kinds as write-packet-kinds
+use Rattle.packet.proofs.write_packet.Reads as write-packet-reads
 use Rattle.transmission.proofs.write_transmission
 use Rattle.transmission.proofs.write_transmission.Kinds as write-transmission-kinds
 use Rattle.transmission.proofs.write_transmission.Reads as write-transmission-reads

@@ -12,18 +12,15 @@ use Rattle.hear.specs.declared.Heard.{Heard}
 use Rattle.reader.proofs.read_packet as reader-read-packet
 use Rattle.reader.proofs.read_packet.Kinds as reader-read-packet-kinds
 use Rattle.reader.proofs.read_packet.Reads as reader-read-packet-reads
-use Rattle.packet.proofs.write_normal as packet-write-normal
-use Rattle.packet.proofs.write_normal.Kinds as packet-write-normal-kinds
-use Rattle.packet.proofs.write_normal.Reads as packet-write-normal-reads
+use Rattle.packet.proofs.write_packet as packet-write-packet
+use Rattle.packet.proofs.write_packet.Kinds as packet-write-packet-kinds
+use Rattle.packet.proofs.write_packet.Reads as packet-write-packet-reads
 use Rattle.packet.proofs.write_query as packet-write-query
 use Rattle.packet.proofs.write_query.Kinds as packet-write-query-kinds
 use Rattle.packet.proofs.write_query.Reads as packet-write-query-reads
 use Rattle.packet.proofs.write_reset as packet-write-reset
 use Rattle.packet.proofs.write_reset.Kinds as packet-write-reset-kinds
 use Rattle.packet.proofs.write_reset.Reads as packet-write-reset-reads
-use Rattle.transmission.proofs.write_packet as transmission-write-packet
-use Rattle.transmission.proofs.write_packet.Kinds as transmission-write-packet-kinds
-use Rattle.transmission.proofs.write_packet.Reads as transmission-write-packet-reads
 use Rattle.transmission.proofs.write_transmission as transmission-write-transmission
 use Rattle.transmission.proofs.write_transmission.Kinds as transmission-write-transmission-kinds
 use Rattle.transmission.proofs.write_transmission.Reads as transmission-write-transmission-reads
@@ -210,10 +207,10 @@ pub one-reader-read-packet : (κs : Lifetimes.Lfts 1) (a : World.ArgsD reader-re
     (s s′ : Clauses.AtExit (K.endedOf 1 reader-read-packet-kinds.ps reader-read-packet-kinds.r) κs) → reader-read-packet-reads.Post κs a r s → reader-read-packet-reads.Post κs a r′ s′ → r ≡ r′
 one-reader-read-packet κs a r r′ s s′ h h′ = one h h′
 
-pub one-packet-write-normal : (κs : Lifetimes.Lfts 2) (a : World.ArgsD packet-write-normal.signature κs) (r r′ : World.ResD packet-write-normal.signature κs)
-    (s s′ : Clauses.AtExit (K.endedOf 2 packet-write-normal-kinds.ps packet-write-normal-kinds.r) κs) → packet-write-normal-reads.Post κs a r s → packet-write-normal-reads.Post κs a r′ s′
-    → (r ≡ r′) × (now (s .1 .1 .1 .1 .1 .0) ≡ now (s′ .1 .1 .1 .1 .1 .0))
-one-packet-write-normal κs a r r′ s s′ h h′ = (one (h .0) (h′ .0), one (h .1) (h′ .1))
+pub one-packet-write-packet : (κs : Lifetimes.Lfts 2) (a : World.ArgsD packet-write-packet.signature κs) (r r′ : World.ResD packet-write-packet.signature κs)
+    (s s′ : Clauses.AtExit (K.endedOf 2 packet-write-packet-kinds.ps packet-write-packet-kinds.r) κs) → packet-write-packet-reads.Post κs a r s → packet-write-packet-reads.Post κs a r′ s′
+    → (r ≡ r′) × (now (s .1 .1 .1 .1 .0) ≡ now (s′ .1 .1 .1 .1 .0))
+one-packet-write-packet κs a r r′ s s′ h h′ = (one (h .answered) (h′ .answered), one (h .left) (h′ .left))
 
 pub one-packet-write-query : (κs : Lifetimes.Lfts 1) (a : World.ArgsD packet-write-query.signature κs) (r r′ : World.ResD packet-write-query.signature κs)
     (s s′ : Clauses.AtExit (K.endedOf 1 packet-write-query-kinds.ps packet-write-query-kinds.r) κs) → packet-write-query-reads.Post κs a r s → packet-write-query-reads.Post κs a r′ s′
@@ -224,11 +221,6 @@ pub one-packet-write-reset : (κs : Lifetimes.Lfts 1) (a : World.ArgsD packet-wr
     (s s′ : Clauses.AtExit (K.endedOf 1 packet-write-reset-kinds.ps packet-write-reset-kinds.r) κs) → packet-write-reset-reads.Post κs a r s → packet-write-reset-reads.Post κs a r′ s′
     → (r ≡ r′) × (now (s .1 .0) ≡ now (s′ .1 .0))
 one-packet-write-reset κs a r r′ s s′ h h′ = (one (h .answered) (h′ .answered), one (h .left) (h′ .left))
-
-pub one-transmission-write-packet : (κs : Lifetimes.Lfts 2) (a : World.ArgsD transmission-write-packet.signature κs) (r r′ : World.ResD transmission-write-packet.signature κs)
-    (s s′ : Clauses.AtExit (K.endedOf 2 transmission-write-packet-kinds.ps transmission-write-packet-kinds.r) κs) → transmission-write-packet-reads.Post κs a r s → transmission-write-packet-reads.Post κs a r′ s′
-    → (r ≡ r′) × (now (s .1 .1 .1 .1 .0) ≡ now (s′ .1 .1 .1 .1 .0))
-one-transmission-write-packet κs a r r′ s s′ h h′ = (one (h .answered) (h′ .answered), one (h .left) (h′ .left))
 
 pub one-transmission-write-transmission : (κs : Lifetimes.Lfts 2) (a : World.ArgsD transmission-write-transmission.signature κs) (r r′ : World.ResD transmission-write-transmission.signature κs)
     (s s′ : Clauses.AtExit (K.endedOf 2 transmission-write-transmission-kinds.ps transmission-write-transmission-kinds.r) κs) → transmission-write-transmission-reads.Post κs a r s → transmission-write-transmission-reads.Post κs a r′ s′

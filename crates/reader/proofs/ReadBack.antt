@@ -6,13 +6,11 @@ use mathlib.Core.Bool.{true}
 use mathlib.Core.Logic.{dite}
 use native.Mathlib.Decide.{decLt}
 use native.Mathlib.Omega.{arith}
-use lib.Dec.{leb}
 use lib.ListN.{length, getD}
 use lib.Seq.{getD-at}
-use Rattle.basis.proofs.Choices.{and-parts}
 use Rattle.basis.proofs.Tests.{tests}
 use Rattle.packet.specs.Wire.{checkOf, fifthOf, frontOf, packetOf, queryOf, resetOf, totalOf, partOf, packetAt}
-use Rattle.packet.specs.Write.{rightFields, normalFits}
+use Rattle.packet.specs.Write.{rightFields}
 use Rattle.packet.proofs.Fields.{right-parts}
 use Rattle.reader.specs.Read.{readOf, fieldsOf}
 use Rattle.reader.specs.declared.read.Reading.the-variants.{Query, Reset, Normal}
@@ -76,9 +74,9 @@ body-reads mid id body position normal some most below =
     (omega arith)
     (λ more. omega arith)
 
--- and whatever the writer of one packet writes
-pub normal-reads : (mid id total position : ℕ) (part out : List ℕ) → normalFits id total position part out ≡ true
+-- and whatever has the fields of a normal packet
+pub normal-reads : (mid id total position : ℕ) (part : List ℕ) → rightFields id total position (length part) ≡ true
     → readOf mid (packetOf mid id (fifthOf total position) part) ≡ Normal id total position (length part)
-normal-reads mid id total position part out e =
-    let r = right-parts id total position (length part) (and-parts (rightFields id total position (length part)) (leb (length part + 7) (length out)) e .0) in
+normal-reads mid id total position part e =
+    let r = right-parts id total position (length part) e in
     packet-reads mid id total position part (r .normal) (r .least) (r .most) (r .below) (r .some) (r .few) (r .full)

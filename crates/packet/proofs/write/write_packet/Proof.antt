@@ -1,10 +1,10 @@
--- `write_packet` asks 31 to 34 in turn; where none applies, the fields of its packet are right and it is written.
-use Rattle.basis.proofs.Tests.{tests}
+-- `write_packet` asks 31 to 34 in turn; where none applies, its packet is written.
 use mathlib.Core.Path.{refl}
-use Rattle.packet.proofs.Writing.{packet-refused, packet-wrote}
 use borrow.Author.Needs.{needs}
-use Rattle.transmission.proofs.write.write_packet.Statement.{statement}
-use Rattle.transmission.proofs.write.write_packet.Tie as tie
+use Rattle.basis.proofs.Tests.{tests}
+use Rattle.packet.proofs.Writing.{packet-refused, packet-wrote}
+use Rattle.packet.proofs.write.write_packet.Statement.{statement}
+use Rattle.packet.proofs.write.write_packet.Tie as tie
 
 returns : tie.Need-returns
 returns c = search tests
@@ -45,23 +45,29 @@ returns-5 c =
     (c .before .lesser .ensures)
     (search needs)
 
-cast-write-normal : tie.Need-cast-write-normal
-cast-write-normal c = search needs
+cast-fifth : tie.Need-cast-fifth
+cast-fifth c = search needs
 
-sub-write-normal : tie.Need-sub-write-normal
-sub-write-normal c = search needs
+mul-fifth : tie.Need-mul-fifth
+mul-fifth c = search needs
 
-part-write-normal-start : tie.Need-part-write-normal-start
-part-write-normal-start c = search needs
+add-fifth : tie.Need-add-fifth
+add-fifth c = search needs
 
-part-write-normal-end : tie.Need-part-write-normal-end
-part-write-normal-end c = search needs
+sub-write-fields : tie.Need-sub-write-fields
+sub-write-fields c = search needs
 
-write-normal-requires : tie.Need-write-normal-requires
-write-normal-requires c κs = search needs
+part-write-fields-start : tie.Need-part-write-fields-start
+part-write-fields-start c = search needs
 
-add-t14 : tie.Need-add-t14
-add-t14 c = search needs
+part-write-fields-end : tie.Need-part-write-fields-end
+part-write-fields-end c = search needs
+
+write-fields-requires : tie.Need-write-fields-requires
+write-fields-requires c κs = search needs
+
+add-t15 : tie.Need-add-t15
+add-t15 c = search needs
 
 same-length : tie.Need-same-length
 same-length c = search needs
@@ -74,10 +80,10 @@ returns-6 c =
     (search needs)
     (c .before .before .before .before .before .before .lesser .ensures)
     _
+    _
     (search needs)
     refl
-    _
-    (c .before .before .write-normal .ensures .1)
+    (c .before .before .write-fields .ensures)
 
 pub write-packet-spec : {M : Type 1} → statement M
 write-packet-spec =
@@ -94,11 +100,13 @@ write-packet-spec =
     add-to
     add-if5
     returns-5
-    cast-write-normal
-    sub-write-normal
-    part-write-normal-start
-    part-write-normal-end
-    write-normal-requires
-    add-t14
+    cast-fifth
+    mul-fifth
+    add-fifth
+    sub-write-fields
+    part-write-fields-start
+    part-write-fields-end
+    write-fields-requires
+    add-t15
     same-length
     returns-6)

@@ -1,4 +1,4 @@
-/* Yurodekapi for C, version 1.1: the calls of the message unit over numbers and lent bytes.
+/* Yurodekapi for C, version 1.2: the calls of the message unit over numbers and lent bytes.
  *
  * Language. C99 or later, or C++11 or later. Link with target/staticlib/libcabi.a, which `rt staticlib cabi` writes.
  *
@@ -31,7 +31,7 @@
 
 /* The version of this header. yd_version has the archive's. */
 #define YD_VERSION_MAJOR 1
-#define YD_VERSION_MINOR 1
+#define YD_VERSION_MINOR 2
 #define YD_VERSION_PATCH 0
 #define YD_VERSION (YD_VERSION_MAJOR * 65536u + YD_VERSION_MINOR * 256u + YD_VERSION_PATCH)
 
@@ -65,15 +65,16 @@ static inline uint32_t yd_word(const uint8_t *answer, size_t index)
 YD_USE_RESULT
 uint32_t yd_version(void);
 
-/* Numbers for no. A call that takes an image says 251 first, then 16, then 252 if it has an answer, then the rest.
- * A call that has an answer and takes no image says 252 first. */
+/* Numbers for no. A call says the first that applies: 251 and then 16 if it takes an image, 19 if it takes a MID, 252 if it has an answer,
+ * then the rest. A MID is that of the sign, whichever end calls; 0, 1, 7Eh and 7Fh are forbidden, since the sign's description advises
+ * against them. */
 enum {
     YD_YES = 0,
     YD_NO_UNDER_7 = 1,         /* under 7 bytes */
     YD_NO_OVER_21 = 2,         /* over 21 bytes */
     YD_NO_COUNT = 3,           /* the count byte isn't the length */
     YD_NO_SUM = 4,             /* the sum of all bytes isn't 0 modulo 256 */
-    YD_NO_MID = 5,             /* the MID isn't the sign's */
+    YD_NO_MID = 5,             /* the packet's MID isn't the sign's */
     YD_NO_SECOND = 6,          /* the second byte isn't 7Fh */
     YD_NO_ZERO = 7,            /* the byte before the checksum isn't 0 */
     YD_NO_ID_OVER = 8,         /* the ID is over 41h */
@@ -84,6 +85,7 @@ enum {
     YD_NO_OTHER = 13,          /* another total, or other data at a position that is held */
     YD_NO_UNSOUND = 16,        /* the image is of an unsound record: power on again */
     YD_NO_SETTINGS = 17,       /* forecast: pace isn't 1 to 20, or scan setting isn't 1 to 6 */
+    YD_NO_MID_FORBIDDEN = 19,  /* the MID is 0, 1, 7Eh or 7Fh: set the sign's switches to another */
     YD_NO_CARET = 21,          /* empty body, or its first byte isn't a caret; place 0 */
     YD_NO_UNKNOWN = 22,        /* unknown or cut-off command, at its caret */
     YD_NO_NUMBER = 23,         /* not a right number, at the command's caret */
@@ -121,7 +123,7 @@ enum {
 /* The wire: what the sender writes and the sign reads. */
 
 /* What bytes off the line are, to the sign of this MID. Of a query or reset all words but the first are 0. The data of a packet stand in
- * `bytes` from YD_PACKET_DATA_OFFSET on. No: 252, 1 to 11. */
+ * `bytes` from YD_PACKET_DATA_OFFSET on. No: 19, 252, 1 to 11. */
 enum { YD_READ_QUERY = 1, YD_READ_RESET = 2, YD_READ_NORMAL = 3 };
 enum { YD_PACKET_DATA_OFFSET = 5 };
 YD_USE_RESULT YD_NOT_NULL
@@ -153,7 +155,7 @@ static inline void yd_get_packet(const uint8_t *answer, struct yd_packet_answer 
 }
 
 /* Write a query, a reset, one packet of a body, or all its packets back to back, at the front of `out`; the value is the length written.
- * YD_TRANSMISSION_SIZE bytes hold any transmission. No: 34; one packet: 31, 32, 33, 34; a transmission: 31, 32, 34.
+ * YD_TRANSMISSION_SIZE bytes hold any transmission. No: 19, 34; one packet: 19, 31, 32, 33, 34; a transmission: 19, 31, 32, 34.
  * A sign needs a moment after a reset: the sender waits about 100 ms before it sends more. */
 YD_USE_RESULT YD_NOT_NULL
 uint32_t yd_write_query(uint8_t mid, uint8_t *out, size_t out_len);
@@ -173,11 +175,11 @@ uint32_t yd_write_transmission(uint8_t mid, uint8_t id, const uint8_t *body, siz
 enum { YD_AUX_FLOAT = 0, YD_AUX_SINK = 1 };
 
 /* Write a reply of the sign of this MID: last completed ID, Busy if `busy` isn't 0, AUX reads S if `aux` isn't 0. The value is 8.
- * No: 32, 34. */
+ * No: 19, 32, 34. */
 YD_USE_RESULT YD_NOT_NULL
 uint32_t yd_write_reply(uint8_t mid, uint8_t last, uint8_t busy, uint8_t aux, uint8_t *out, size_t out_len);
 
-/* What a reply of the sign of this MID tells. No: 252, 35. */
+/* What a reply of the sign of this MID tells. The MID is the sign's own; the reply carries it with its lowest bit inverted. No: 19, 252, 35. */
 YD_USE_RESULT YD_NOT_NULL
 uint32_t yd_read_reply(uint8_t mid, const uint8_t *bytes, size_t bytes_len, uint8_t *answer, size_t answer_len);
 
@@ -269,7 +271,7 @@ uint32_t yd_power_on(uint8_t *image, size_t image_len);
 YD_USE_RESULT YD_NOT_NULL
 uint32_t yd_reset(uint8_t *image, size_t image_len);
 
-/* What bytes off the line do to the sign. No: 251, 16, 252, 1 to 13. */
+/* What bytes off the line do to the sign. No: 251, 16, 19, 252, 1 to 13. */
 enum {
     YD_DID_QUERY = 1,  /* answer it with yd_reply; the image stays */
     YD_DID_RESET = 2,  /* the image is already reset: yd_reset isn't needed */
@@ -360,7 +362,7 @@ static inline void yd_get_step(const uint8_t *answer, struct yd_step_answer *ste
     step->ms = yd_word(answer, YD_WORD_STEP_MS);
 }
 
-/* Write the reply to a query; AUX reads S if `aux` isn't 0. The value is 8. The image stays. No: 251, 16, 34. */
+/* Write the reply to a query; AUX reads S if `aux` isn't 0. The value is 8. The image stays. No: 251, 16, 19, 34. */
 YD_USE_RESULT YD_NOT_NULL
 uint32_t yd_reply(const uint8_t *image, size_t image_len, uint8_t mid, uint8_t aux, uint8_t *out, size_t out_len);
 

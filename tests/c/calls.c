@@ -85,6 +85,7 @@ static void numbers_for_no(void)
     CHECK(YD_NO_OTHER, 13);
     CHECK(YD_NO_UNSOUND, 16);
     CHECK(YD_NO_SETTINGS, 17);
+    CHECK(YD_NO_MID_FORBIDDEN, 19);
     CHECK(YD_NO_CARET, 21);
     CHECK(YD_NO_UNKNOWN, 22);
     CHECK(YD_NO_NUMBER, 23);
@@ -129,8 +130,8 @@ static void results(void)
     CHECK(yd_value(0x123415u), 0x1234);
     CHECK(yd_value(0xFFFFFF00u), 0xFFFFFF);
     CHECK(yd_word(words, 1), 0xF2345678u);
-    CHECK(YD_VERSION, 65792);
-    CHECK(yd_version(), yes(65792));
+    CHECK(YD_VERSION, 66048);
+    CHECK(yd_version(), yes(66048));
     CHECK(yd_value(yd_version()), YD_VERSION);
 }
 
@@ -1291,6 +1292,129 @@ static void repeat(void)
     CHECK(yd_repeat(BYTES(""), 1, 0), yes(0));
 }
 
+/* The guard for the MID: the four that are forbidden and their neighbours, the last bytes of a query to each and of its reply after
+ * power-on with AUX reading F, and the MID that the reply carries. */
+struct mid {
+    uint8_t mid;
+    int forbidden;
+    uint8_t query_sum;
+    uint8_t turned;
+    uint8_t reply_sum;
+};
+static const struct mid mids[] = {
+    { 0x00, 1, 0x2A, 0x01, 0x9F }, { 0x01, 1, 0x29, 0x00, 0xA0 }, { 0x02, 0, 0x28, 0x03, 0x9D }, { 0x7D, 0, 0xAD, 0x7C, 0x24 },
+    { 0x7E, 1, 0xAC, 0x7F, 0x21 }, { 0x7F, 1, 0xAB, 0x7E, 0x22 }, { 0x80, 0, 0xAA, 0x81, 0x1F }, { 0xFF, 0, 0x2B, 0xFE, 0xA2 },
+};
+enum { MIDS = sizeof mids / sizeof mids[0] };
+
+/* Every call that takes a MID, with a forbidden one, on a sound image: right in all else, and wrong in all else. */
+static void all_forbid(uint8_t mid, const uint8_t *to_it, const uint8_t *from_it, const uint8_t *record)
+{
+    uint8_t image[YD_IMAGE_SIZE];
+    uint8_t lent[YD_TRANSMISSION_SIZE];
+    memcpy(image, record, sizeof image);
+    fill(lent, sizeof lent);
+    CHECK(yd_read_packet(mid, to_it, 7, lent, 20), 19);
+    CHECK(yd_read_packet(mid, query, 7, lent, 20), 19);
+    CHECK(yd_read_packet(mid, to_it, 0, lent, 0), 19);
+    CHECK(yd_read_reply(mid, from_it, 8, lent, 12), 19);
+    CHECK(yd_read_reply(mid, from_it, 0, lent, 0), 19);
+    CHECK(yd_write_query(mid, lent, 7), 19);
+    CHECK(yd_write_query(mid, lent, 0), 19);
+    CHECK(yd_write_reset(mid, lent, 7), 19);
+    CHECK(yd_write_reset(mid, lent, 0), 19);
+    CHECK(yd_write_packet(mid, 5, BYTES("^IIHI"), 0, lent, sizeof lent), 19);
+    CHECK(yd_write_packet(mid, 0x40, BYTES(""), 6, lent, 0), 19);
+    CHECK(yd_write_transmission(mid, 5, BYTES("^IIHI"), lent, sizeof lent), 19);
+    CHECK(yd_write_transmission(mid, 0x40, BYTES(""), lent, 0), 19);
+    CHECK(yd_write_reply(mid, 0x41, 0, YD_AUX_FLOAT, lent, sizeof lent), 19);
+    CHECK(yd_write_reply(mid, 0x40, 0, YD_AUX_FLOAT, lent, 0), 19);
+    CHECK(yd_receive(image, sizeof image, mid, to_it, 7, lent, sizeof lent), 19);
+    CHECK(yd_receive(image, sizeof image, mid, to_it, 0, lent, 0), 19);
+    CHECK(yd_reply(image, sizeof image, mid, YD_AUX_FLOAT, lent, sizeof lent), 19);
+    CHECK(yd_reply(image, sizeof image, mid, YD_AUX_FLOAT, lent, 0), 19);
+    /* An unsound record and an image of another size come before it. */
+    image[YD_AT_LAST] = 0x40;
+    CHECK(yd_receive(image, sizeof image, mid, to_it, 7, lent, sizeof lent), 16);
+    CHECK(yd_receive(image, sizeof image, mid, to_it, 0, lent, 0), 16);
+    CHECK(yd_reply(image, sizeof image, mid, YD_AUX_FLOAT, lent, 0), 16);
+    CHECK(yd_receive(image, 101, mid, to_it, 7, lent, sizeof lent), 251);
+    CHECK(yd_reply(image, 101, mid, YD_AUX_FLOAT, lent, 0), 251);
+    image[YD_AT_LAST] = record[YD_AT_LAST];
+    check_bytes(__LINE__, "image", image, record, sizeof image);
+    check_filled(__LINE__, "lent bytes", lent, sizeof lent);
+}
+
+/* And one that is taken. */
+static void all_take(uint8_t mid, const uint8_t *to_it, const uint8_t *from_it, const uint8_t *record)
+{
+    uint8_t image[YD_IMAGE_SIZE];
+    uint8_t lent[YD_TRANSMISSION_SIZE];
+    memcpy(image, record, sizeof image);
+    CHECK(yd_write_query(mid, lent, 7), yes(7));
+    check_bytes(__LINE__, "query", lent, to_it, 7);
+    CHECK(yd_write_reset(mid, lent, 7), yes(7));
+    CHECK(lent[0], mid);
+    CHECK(yd_write_packet(mid, 5, BYTES("^IIHI"), 0, lent, sizeof lent), yes(12));
+    CHECK(lent[0], mid);
+    CHECK(yd_write_transmission(mid, 5, BYTES("^IIHI"), lent, sizeof lent), yes(12));
+    CHECK(lent[0], mid);
+    CHECK(yd_write_reply(mid, 0x41, 0, YD_AUX_FLOAT, lent, sizeof lent), yes(8));
+    check_bytes(__LINE__, "reply", lent, from_it, 8);
+    CHECK(yd_reply(image, sizeof image, mid, YD_AUX_FLOAT, lent, sizeof lent), yes(8));
+    check_bytes(__LINE__, "reply", lent, from_it, 8);
+    CHECK(yd_read_packet(mid, to_it, 7, lent, 20), 0);
+    CHECK(yd_word(lent, YD_WORD_PACKET_WHAT), YD_READ_QUERY);
+    CHECK(yd_read_reply(mid, from_it, 8, lent, 12), 0);
+    CHECK(yd_word(lent, YD_WORD_REPLY_LAST), 0x41);
+    CHECK(yd_receive(image, sizeof image, mid, to_it, 7, lent, sizeof lent), 0);
+    CHECK(yd_word(lent, YD_WORD_RECEIVE_OUTCOME), YD_DID_QUERY);
+}
+
+static void forbidden_mids(void)
+{
+    uint8_t to_it[] = { 0, 0x7F, 0x07, 0x40, 0x10, 0x00, 0 };
+    uint8_t from_it[] = { 0, 0x7F, 0x08, 0x41, 0x52, 0x46, 0x00, 0 };
+    uint8_t ready[YD_IMAGE_SIZE];
+    uint8_t busy[YD_IMAGE_SIZE];
+    size_t i;
+    just_on(ready);
+    running(busy, "^W5");
+    for (i = 0; i < MIDS; i++) {
+        to_it[0] = mids[i].mid;
+        to_it[6] = mids[i].query_sum;
+        from_it[0] = mids[i].turned;
+        from_it[7] = mids[i].reply_sum;
+        if (mids[i].forbidden) {
+            all_forbid(mids[i].mid, to_it, from_it, ready);
+            all_forbid(mids[i].mid, to_it, from_it, busy);
+        } else {
+            all_take(mids[i].mid, to_it, from_it, ready);
+        }
+    }
+}
+
+/* The sign's own MID is judged, and not the packet's: a query to 7Fh is 19 there, and 5 to the sign of 80h. */
+static void own_mid(void)
+{
+    static const uint8_t to_7f[] = { 0x7F, 0x7F, 0x07, 0x40, 0x10, 0x00, 0xAB };
+    static const uint8_t from_7f[] = { 0x7E, 0x7F, 0x08, 0x41, 0x52, 0x46, 0x00, 0x22 };
+    uint8_t image[YD_IMAGE_SIZE];
+    uint8_t answer[YD_RECEIVE_ANSWER_SIZE];
+    unsigned mid;
+    just_on(image);
+    CHECK(yd_read_packet(0x7F, to_7f, sizeof to_7f, answer, sizeof answer), 19);
+    CHECK(yd_read_packet(sign_mid, to_7f, sizeof to_7f, answer, sizeof answer), 5);
+    CHECK(yd_receive(image, sizeof image, sign_mid, to_7f, sizeof to_7f, answer, sizeof answer), 5);
+    CHECK(yd_read_reply(sign_mid, from_7f, sizeof from_7f, answer, sizeof answer), 35);
+    for (mid = 0; mid < 256; mid++) {
+        int forbidden = mid == 0x00 || mid == 0x01 || mid == 0x7E || mid == 0x7F;
+        CHECK(yd_write_query((uint8_t)mid, answer, 0), forbidden ? 19 : 34);
+        CHECK(yd_read_packet((uint8_t)mid, to_7f, 0, answer, sizeof answer), forbidden ? 19 : 1);
+        CHECK(yd_read_reply((uint8_t)mid, from_7f, 0, answer, sizeof answer), forbidden ? 19 : 35);
+    }
+}
+
 int main(void)
 {
     numbers_for_no();
@@ -1325,6 +1449,8 @@ int main(void)
     reply();
     copy_body();
     repeat();
+    forbidden_mids();
+    own_mid();
     printf("tests/c: %u checks, %u failed\n", checks, failed);
     return failed != 0;
 }

@@ -46,6 +46,24 @@ fn line_received(sign: Sign, text: &[u8]) -> Sign {
     heard(sign, &bytes, n)
 }
 
+// The first bytes of a buffer come off the line to a sign that is set to the MID before them.
+fn heard_by(sign: Sign, bytes: &[u8], n: usize) -> Sign {
+    if n < 1 {
+        return sign;
+    }
+    if bytes.len() < n {
+        return sign;
+    }
+    received(sign.receive(bytes[0], &bytes[1..n]))
+}
+
+// The bytes that a line writes after a MID come off the line to a sign that is set to it.
+fn line_received_by(sign: Sign, text: &[u8]) -> Sign {
+    let mut bytes = [0u8; 32];
+    let n = decode(text, &mut bytes);
+    heard_by(sign, &bytes, n)
+}
+
 // One thing done to the sign.
 fn done(sign: Sign, text: &[u8]) -> Sign {
     if text.len() == 0 {
@@ -54,6 +72,9 @@ fn done(sign: Sign, text: &[u8]) -> Sign {
     let what = text[0];
     if what == b'r' {
         return line_received(sign, text);
+    }
+    if what == b'm' {
+        return line_received_by(sign, text);
     }
     if what == b's' {
         return stepped(sign.step());

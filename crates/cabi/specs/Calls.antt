@@ -1,4 +1,5 @@
--- What each call for C answers, makes of the image, and writes into the lent answer: N251, N252 and their order in N0.
+-- What each call for C answers, makes of the image, and writes into the lent answer: N251, N16, N19, N252 and their order
+-- in N0.
 -- An answer's numbers are `toldOf` of its own crate (P13), and `words` has how they are laid.
 use Prim.Native.Nat.{ℕ, _+_, _*_}
 use mathlib.Core.Bool.{not}
@@ -9,17 +10,17 @@ use lib.ListN.{length}
 use Rattle.basis.specs.Bytes.{laid}
 use Rattle.basis.specs.Choice.{when}
 use Rattle.basis.specs.Rows.{Row, _if_, firstOf}
-use Rattle.packet.specs.Write.{shortBy, answerOf, bufferOf}
+use Rattle.packet.specs.Mid.{midRow}
+use Rattle.packet.specs.Write.{answerOf, bufferOf}
 use Rattle.reader.specs.Read.{readOf, toldOf as readTold}
 use Rattle.reply.specs.Reply.{heardOf, toldOf as statusTold}
 use Rattle.reckon.specs.Forecast.{forecastOf, toldOf as forecastTold}
 use Rattle.hear.specs.Hear.{toldOf as outcomeTold}
 use Rattle.machine.specs.Step.{toldOf as answerTold}
-use Rattle.sign.specs.Sound.{soundOf}
 use Rattle.sign.specs.Reset.{powerOn, clearedOf}
 use Rattle.sign.specs.Receive.{receiveOf}
 use Rattle.sign.specs.Step.{stepOf}
-use Rattle.sign.specs.declared.Sign.{Sign}
+use Rattle.sign.specs.Tell.{toldRows}
 use Rattle.image.specs.Layout.{imageOf, recordOf}
 use Rattle.words.specs.Words.{wordsOf, wroteOf}
 use Rattle.words.specs.Told.{answerRow, firstOr, toldIn, foretoldResult}
@@ -30,18 +31,18 @@ pub record Tells (rows : List Row) (bytes out : List ℕ) (result : ℕ) (after 
   pub told : result ≡ wroteOf (answerOf (firstOf rows) bytes)
   pub left : after ≡ bufferOf (firstOf rows) bytes out
 
--- reading a packet, and reading a reply
+-- reading a packet, and reading a reply: 19, then 252, then the reader's own number
 abbrev pub readAnswer : ℕ → (bytes answer : List ℕ) → List ℕ
 readAnswer mid bytes answer = toldIn 20 (wordsOf (readTold (readOf mid bytes) .values)) answer
 
 abbrev pub readNo : ℕ → (bytes answer : List ℕ) → ℕ
-readNo mid bytes answer = firstOr (answerRow 20 answer ∷ []) (readTold (readOf mid bytes) .number)
+readNo mid bytes answer = firstOr (midRow mid ∷ answerRow 20 answer ∷ []) (readTold (readOf mid bytes) .number)
 
 abbrev pub replyAnswer : ℕ → (bytes answer : List ℕ) → List ℕ
 replyAnswer mid bytes answer = toldIn 12 (wordsOf (statusTold (heardOf mid bytes) .values)) answer
 
 abbrev pub replyNo : ℕ → (bytes answer : List ℕ) → ℕ
-replyNo mid bytes answer = firstOr (answerRow 12 answer ∷ []) (statusTold (heardOf mid bytes) .number)
+replyNo mid bytes answer = firstOr (midRow mid ∷ answerRow 12 answer ∷ []) (statusTold (heardOf mid bytes) .number)
 
 -- forecasting a body
 abbrev pub forecastResult : (body : List ℕ) → (pace each : ℕ) → (answer : List ℕ) → ℕ
@@ -56,7 +57,7 @@ imageRow image = 251 if not (eqb (length image) 102)
 
 -- the guard of a call on a sign: 251, then 16 for a record that is not sound, before the call's own rows
 abbrev pub guarded : List ℕ → List Row → List Row
-guarded image rows = imageRow image ∷ 16 if not (soundOf (recordOf image)) ∷ rows
+guarded image rows = imageRow image ∷ toldRows (recordOf image) rows
 
 -- what a call leaves of a lent list: as it was where the call is refused, 0 being yes
 abbrev pub keptOf : ℕ → (as-was next : List ℕ) → List ℕ
@@ -64,7 +65,7 @@ keptOf number as-was next = when (eqb number 0) next as-was
 
 -- a receive
 abbrev pub receiveNo : (image : List ℕ) → ℕ → (bytes answer : List ℕ) → ℕ
-receiveNo image mid bytes answer = firstOr (guarded image (answerRow 100 answer ∷ [])) (outcomeTold (receiveOf (recordOf image) mid bytes .outcome) .number)
+receiveNo image mid bytes answer = firstOr (guarded image (midRow mid ∷ answerRow 100 answer ∷ [])) (outcomeTold (receiveOf (recordOf image) mid bytes .outcome) .number)
 
 -- the image after it: that of the next record
 abbrev pub receiveImage : (image : List ℕ) → ℕ → (bytes answer : List ℕ) → List ℕ
@@ -99,10 +100,6 @@ stepImage image answer = keptOf (stepNo image answer) image (imageOf (stepOf (re
 -- and what is told of it
 abbrev pub stepAnswer : (image answer : List ℕ) → List ℕ
 stepAnswer image answer = keptOf (stepNo image answer) answer (laid (wordsOf (answerTold (stepOf (recordOf image) .answer) .values)) answer)
-
--- the reply to a query, and a copy of the running body: the guard, then 34
-abbrev pub tellRows : (bytes : Sign → List ℕ) → (image out : List ℕ) → List Row
-tellRows bytes image out = guarded image (shortBy (bytes (recordOf image)) out ∷ [])
 
 -- a version as one value
 abbrev pub versionOf : (major minor patch : ℕ) → ℕ

@@ -1,11 +1,13 @@
-// The record in a lent image, and back.
+// The record in a lent image, and back; and the numbers before 252.
 use image::image_of;
 use image::record_of;
+use packet::forbidden;
 use sign::Sign;
 ghost use mathlib.Core.Path.{_≡_};
 ghost use lib.ListN.{length};
 ghost use Rattle.basis.specs.Choice.{when};
 ghost use Rattle.image.specs.Layout.{imageOf, recordOf};
+ghost use Rattle.packet.specs.Mid.{isForbidden};
 ghost use Rattle.sign.specs.Sound.{soundOf};
 
 // The size of an image.
@@ -30,9 +32,16 @@ pub(crate) fn store(sign: Sign, image: &mut [u8])
     bytes::copy(&held, image);
 }
 
-// Why a call whose answer is too short is refused: 16 for an unsound record, else 252.
-pub(crate) fn short(sign: Sign) -> u32
-    ensures { λ r. ⌜ r ≡ when (soundOf sign) 252 16 ⌝ }
+// Why a call on a sign is refused whose answer is too short: 16 for an unsound record, else the number that comes after it.
+pub(crate) fn short(sign: Sign, then: u32) -> u32
+    ensures { λ r. ⌜ r ≡ when (soundOf sign) then 16 ⌝ }
 {
-    if sign.sound() { 252 } else { 16 }
+    if sign.sound() { then } else { 16 }
+}
+
+// Why a call with a MID is refused whose answer is too short: 19 for a forbidden one, else 252.
+pub(crate) fn short_for(mid: u8) -> u32
+    ensures { λ r. ⌜ r ≡ when (isForbidden mid) 19 252 ⌝ }
+{
+    if forbidden(mid) { 19 } else { 252 }
 }

@@ -1,7 +1,9 @@
-// The sign for C, over an image of its record: rules J3, J14 to J16, S1, S28 and S29, with N16, N34, N251 and N252.
+// The sign for C, over an image of its record: rules J3, J14 to J16, S1, S28 and S29, with N16, N19, N34, N251
+// and N252.
 use crate::loaded::SIZE;
 use crate::loaded::load;
 use crate::loaded::short;
+use crate::loaded::short_for;
 use crate::loaded::store;
 use repeater::shows;
 use sign::Sign;
@@ -17,9 +19,9 @@ ghost use Rattle.basis.specs.Rows.{firstOf};
 ghost use Rattle.basis.specs.Told.{flagOf};
 ghost use Rattle.image.specs.Layout.{recordOf};
 ghost use Rattle.repeater.specs.Repeat.{withinOf};
-ghost use Rattle.sign.specs.Tell.{saysOf, runningBody};
+ghost use Rattle.sign.specs.Tell.{saysOf, runningBody, saysRows, copyRows};
 ghost use Rattle.words.specs.Words.{resultOf};
-ghost use Rattle.cabi.specs.Calls.{Tells, imageRow, powerImage, resetNo, resetImage, receiveNo, receiveImage, receiveAnswer, stepNo, stepImage, stepAnswer, tellRows};
+ghost use Rattle.cabi.specs.Calls.{Tells, imageRow, powerImage, resetNo, resetImage, receiveNo, receiveImage, receiveAnswer, stepNo, stepImage, stepAnswer};
 
 // The image of a sign that was just switched on.
 #[no_mangle]
@@ -68,7 +70,7 @@ pub extern "C" fn yd_receive(image: &mut [u8], mid: u8, bytes: &[u8], answer: &m
     }
     let sign = load(image);
     if answer.len() < 100 {
-        return short(sign);
+        return short(sign, short_for(mid));
     }
     let received = sign.receive(mid, bytes);
     let outcome = received.outcome;
@@ -94,7 +96,7 @@ pub extern "C" fn yd_step(image: &mut [u8], answer: &mut [u8]) -> u32
     }
     let sign = load(image);
     if answer.len() < 28 {
-        return short(sign);
+        return short(sign, 252);
     }
     let stepped = sign.step();
     let said = stepped.answer;
@@ -110,7 +112,7 @@ pub extern "C" fn yd_step(image: &mut [u8], answer: &mut [u8]) -> u32
 // Writes the reply to a query; AUX reads S if `aux` isn't 0.
 #[no_mangle]
 pub extern "C" fn yd_reply(image: &[u8], mid: u8, aux: u8, out: &mut [u8]) -> u32
-    ensures { λ r. ⌜ Tells (tellRows (λ s. saysOf s mid (not (eqb aux 0))) (now (image .entry)) (now (out .entry))) (saysOf (recordOf (now (image .entry))) mid (not (eqb aux 0))) (now (out .entry)) r (now (out .exit)) ⌝ }
+    ensures { λ r. ⌜ Tells (imageRow (now (image .entry)) ∷ saysRows (recordOf (now (image .entry))) mid (not (eqb aux 0)) (now (out .entry))) (saysOf (recordOf (now (image .entry))) mid (not (eqb aux 0))) (now (out .entry)) r (now (out .exit)) ⌝ }
 {
     if image.len() != SIZE {
         return 251;
@@ -123,7 +125,7 @@ pub extern "C" fn yd_reply(image: &[u8], mid: u8, aux: u8, out: &mut [u8]) -> u3
 // Copies the running body, none when Ready.
 #[no_mangle]
 pub extern "C" fn yd_copy_body(image: &[u8], out: &mut [u8]) -> u32
-    ensures { λ r. ⌜ Tells (tellRows runningBody (now (image .entry)) (now (out .entry))) (runningBody (recordOf (now (image .entry)))) (now (out .entry)) r (now (out .exit)) ⌝ }
+    ensures { λ r. ⌜ Tells (imageRow (now (image .entry)) ∷ copyRows (recordOf (now (image .entry))) (now (out .entry))) (runningBody (recordOf (now (image .entry)))) (now (out .entry)) r (now (out .exit)) ⌝ }
 {
     if image.len() != SIZE {
         return 251;

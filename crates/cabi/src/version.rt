@@ -6,7 +6,7 @@ ghost use Rattle.cabi.specs.Calls.{versionOf};
 // Version 1.1.0, as a result.
 #[no_mangle]
 pub extern "C" fn yd_version() -> u32
-    ensures { λ r. ⌜ r ≡ resultOf 0 (versionOf 1 1 0) ⌝ }
+    ensures { λ r. ⌜ r ≡ resultOf 0 (versionOf 1 2 0) ⌝ }
 {
-    16842752
+    16908288
 }

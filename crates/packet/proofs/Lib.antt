@@ -1,4 +1,5 @@
 pub mod Fields
+pub mod Guards
 pub mod Laying
 pub mod Parts
 pub mod Seals

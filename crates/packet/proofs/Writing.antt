@@ -14,6 +14,7 @@ use Rattle.basis.specs.Choice.{when}
 use Rattle.basis.specs.Rows.{Row, firstOf}
 use Rattle.basis.proofs.Laid.{laid-lent, length-laid}
 use Rattle.basis.proofs.Tests.{tests}
+use Rattle.packet.specs.Mid.{Allowed, midRow}
 use Rattle.packet.specs.Wire.{fifthOf, totalOf, partOf, packetOf, packetAt, packetsOf, transmissionOf}
 use Rattle.packet.specs.Write.{Writes, answerOf, bufferOf, shortBy, packetRows, transmissionRows}
 use Rattle.packet.specs.declared.write.Written.{Written}
@@ -88,14 +89,14 @@ module _ (mid id : ℕ) (body out : List ℕ) (some : length body ≡ 0 → ⊥)
       ea
 
   -- what stands behind the first packets, lent on and handed back by the writer of one packet, holds the next
-  pub next-packet : (f y : List ℕ) (position : ℕ) (r : Written) → position < totalOf body → 7 * totalOf body + length body ≤ length out
+  pub next-packet : (f y : List ℕ) (position : ℕ) (r : Written) → Allowed mid → position < totalOf body → 7 * totalOf body + length body ≤ length out
       → f ≡ laid (packetsOf mid id body position) out
       → (let rest = take (length f - 21 * position) (drop (21 * position) f) in
-      Writes (packetRows mid id body position rest) (packetAt mid id body position) rest r y)
+      Writes (midRow mid ∷ packetRows mid id body position rest) (packetAt mid id body position) rest r y)
       → (putMid (21 * position) (length f - 21 * position) f y ≡ laid (packetsOf mid id body (position + 1)) out)
       × (length (putMid (21 * position) (length f - 21 * position) f y) ≡ length out)
   unfolding packetsOf
-  next-packet f y position r below room ef written =
+  next-packet f y position r allowed below room ef written =
       let at = 21 * position in
       let p = packetsOf mid id body position in
       let q = packetAt mid id body position in
@@ -108,7 +109,7 @@ module _ (mid id : ℕ) (body out : List ℕ) (some : length body ≡ 0 → ⊥)
       let lr : length rest ≡ length out - at =
       simp (length-take, length-drop) (omega arith) in
       let enough : length q ≤ length rest = omega arith in
-      let none : firstOf (packetRows mid id body position rest) ≡ 0 = search (tests, enough) in
+      let none : firstOf (midRow mid ∷ packetRows mid id body position rest) ≡ 0 = search (tests, allowed, enough) in
       let laying : y ≡ laid q rest = written .left ∙ ap (λ (k : ℕ). bufferOf k q rest) none in
       let now : putMid at (length f - at) f y ≡ laid (packetsOf mid id body (position + 1)) out =
       rw add-one (laid-lent at p q out f y lp fits ef laying) in

@@ -1,2 +1,3 @@
+pub mod Mid
 pub mod Wire
 pub mod Write

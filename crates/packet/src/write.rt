@@ -1,11 +1,13 @@
-// Writes one packet of a body, a query or a reset into a lent buffer: W1 to W6, W13 to W15, W17 and W18, with N31 to N34.
-// A refusal changes no byte, and bytes after the written ones stay.
+// Writes one packet of a body, a query or a reset into a lent buffer: W1 to W6, W13 to W15, W17 and W18, with N19 and N31
+// to N34. A refusal changes no byte, and bytes after the written ones stay.
+use crate::mid::forbidden;
 use crate::sum::negated;
 ghost use mathlib.Core.Path.{_≡_};
 ghost use mathlib.Core.List.{[], _∷_};
 ghost use Prim.Native.Nat.{_+_, _%_, _≤_, min};
 ghost use lib.ListN.{length, take};
 ghost use Rattle.basis.specs.Bytes.{sum, laid};
+ghost use Rattle.packet.specs.Mid.{midRow};
 ghost use Rattle.packet.specs.Wire.{sealed, packetOf, packetAt, queryOf, resetOf};
 ghost use Rattle.packet.specs.Write.{Writes, shortBy, packetRows};
 
@@ -83,8 +85,8 @@ fn lesser(a: usize, b: usize) -> usize
     if a < b { a } else { b }
 }
 
-// The packet at one position of a body.
-pub fn write_packet(mid: u8, id: u8, body: &[u8], position: u8, out: &mut [u8]) -> Written
+// The packet at one position of a body, for a MID that is not judged here.
+fn write_at(mid: u8, id: u8, body: &[u8], position: u8, out: &mut [u8]) -> Written
     ensures { λ r. ⌜ Writes (packetRows mid id (now (body .entry)) position (now (out .entry))) (packetAt mid id (now (body .entry)) position) (now (out .entry)) r (now (out .exit)) ⌝ }
 {
     let n = body.len();
@@ -113,10 +115,23 @@ pub fn write_packet(mid: u8, id: u8, body: &[u8], position: u8, out: &mut [u8]) 
     Written::Wrote(len + 7)
 }
 
+// The packet at one position of a body.
+pub fn write_packet(mid: u8, id: u8, body: &[u8], position: u8, out: &mut [u8]) -> Written
+    ensures { λ r. ⌜ Writes (midRow mid ∷ packetRows mid id (now (body .entry)) position (now (out .entry))) (packetAt mid id (now (body .entry)) position) (now (out .entry)) r (now (out .exit)) ⌝ }
+{
+    if forbidden(mid) {
+        return Written::Refused(19);
+    }
+    write_at(mid, id, body, position, out)
+}
+
 // A packet without data: a query or a reset.
 fn write_special(mid: u8, id: u8, out: &mut [u8]) -> Written
-    ensures { λ r. ⌜ Writes (shortBy (packetOf mid id 0x10 []) (now (out .entry)) ∷ []) (packetOf mid id 0x10 []) (now (out .entry)) r (now (out .exit)) ⌝ }
+    ensures { λ r. ⌜ Writes (midRow mid ∷ shortBy (packetOf mid id 0x10 []) (now (out .entry)) ∷ []) (packetOf mid id 0x10 []) (now (out .entry)) r (now (out .exit)) ⌝ }
 {
+    if forbidden(mid) {
+        return Written::Refused(19);
+    }
     if out.len() < 7 {
         return Written::Refused(34);
     }
@@ -126,14 +141,14 @@ fn write_special(mid: u8, id: u8, out: &mut [u8]) -> Written
 
 // The packet that asks the sign of this MID for its status.
 pub fn write_query(mid: u8, out: &mut [u8]) -> Written
-    ensures { λ r. ⌜ Writes (shortBy (queryOf mid) (now (out .entry)) ∷ []) (queryOf mid) (now (out .entry)) r (now (out .exit)) ⌝ }
+    ensures { λ r. ⌜ Writes (midRow mid ∷ shortBy (queryOf mid) (now (out .entry)) ∷ []) (queryOf mid) (now (out .entry)) r (now (out .exit)) ⌝ }
 {
     write_special(mid, 0x40, out)
 }
 
 // The packet that resets the sign of this MID.
 pub fn write_reset(mid: u8, out: &mut [u8]) -> Written
-    ensures { λ r. ⌜ Writes (shortBy (resetOf mid) (now (out .entry)) ∷ []) (resetOf mid) (now (out .entry)) r (now (out .exit)) ⌝ }
+    ensures { λ r. ⌜ Writes (midRow mid ∷ shortBy (resetOf mid) (now (out .entry)) ∷ []) (resetOf mid) (now (out .entry)) r (now (out .exit)) ⌝ }
 {
     write_special(mid, 0x41, out)
 }

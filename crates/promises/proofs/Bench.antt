@@ -5,8 +5,9 @@ use mathlib.Core.Bool.{true}
 use mathlib.Core.Path.{_≡_, refl}
 use lib.ListN.{length}
 use Rattle.basis.specs.Bytes.{sum}
+use Rattle.packet.specs.Mid.{isForbidden}
 use Rattle.packet.specs.Wire.{packetOf, replyOf}
-use Rattle.reader.specs.Read.{readOf}
+use Rattle.reader.specs.Read.{lowestOf, readOf}
 use Rattle.program.specs.Command.{readOf as commandAt}
 use Rattle.perform.specs.Price.{answerOf}
 use Rattle.perform.specs.Settings.{soundOf}
@@ -35,7 +36,7 @@ foretold : (b : List ℕ) → judgeOf b ≡ Finite → soundOf at4 ≡ true
 foretold b e set = forecast-holds b at4 set e
 
 pub all-starred : All starred
-unfolding sum packetOf replyOf readOf commandAt judgeOf answerOf soundOf readyOf freshOf
+unfolding sum packetOf replyOf isForbidden lowestOf readOf commandAt judgeOf answerOf soundOf readyOf freshOf
 all-starred = (
   refl,
   (
@@ -44,7 +45,7 @@ all-starred = (
       refl,
       (
         refl,
-        (refl, (refl, (foretold w5 refl refl, (foretold l3w2e refl refl, (foretold shi refl refl, (foretold s refl refl, (foretold slow refl refl, (foretold edge refl refl, (refl, (refl, (refl, (refl, tt)))))))))))),
+        (refl, (refl, (refl, (refl, (foretold w5 refl refl, (foretold l3w2e refl refl, (foretold shi refl refl, (foretold s refl refl, (foretold slow refl refl, (foretold edge refl refl, (refl, (refl, (refl, (refl, tt)))))))))))))),
       ),
     ),
   ),

@@ -1,7 +1,7 @@
 -- Ours delivers: the packets that walking finds in the buffer are the body's, and they are joined.
 use Prim.Native.Nat.{ℕ, zero, suc, _+_, _-_, _*_, _≤_, _<_}
 use mathlib.Core.Bool.{Bool, true, false}
-use mathlib.Core.List.{List, _++_}
+use mathlib.Core.List.{List, _∷_, _++_}
 use mathlib.Core.Path.{_≡_, refl, sym, ap, _∙_, subst}
 use native.Mathlib.Omega.{arith}
 use lib.Dec.{eqb, ltb}
@@ -11,6 +11,7 @@ use borrow.Author.Tests.{eqb-false, ltb-false}
 use Rattle.basis.specs.Bytes.{laid}
 use Rattle.basis.specs.Choice.{when, _or_}
 use Rattle.basis.specs.Rows.{firstOf}
+use Rattle.packet.specs.Mid.{isForbidden, Allowed, midRow}
 use Rattle.packet.specs.Wire.{fifthOf, totalOf, partOf, packetAt, transmissionOf}
 use Rattle.packet.specs.Write.{transmissionRows, answerOf, bufferOf, toldOf as writtenTold}
 use Rattle.packet.proofs.Parts.{transmission-length}
@@ -30,9 +31,10 @@ use Rattle.promises.specs.Unit.{Heard, ours, heardIn}
 use Rattle.promises.specs.Record.{stays}
 use Rattle.promises.specs.Delivery.{packetIn, behind, answered, Gets, Delivers}
 
--- what a written transmission says of its body, its number and its buffer
+-- what a written transmission says of its MID, its body, its number and its buffer
 pub record Written (mid id : ℕ) (body out : List ℕ) : Type 0 where
-  pub none : firstOf (transmissionRows mid id body out) ≡ 0
+  pub none : firstOf (midRow mid ∷ transmissionRows mid id body out) ≡ 0
+  pub allowed : Allowed mid
   pub some : 1 ≤ length body
   pub most : length body ≤ 84
   pub known : id ≤ 0x3F
@@ -40,26 +42,29 @@ pub record Written (mid id : ℕ) (body out : List ℕ) : Type 0 where
 
 pub written : (mid id : ℕ) (body out : List ℕ) → ours .transmit mid id body out .told .number ≡ 0 → Written mid id body out
 written mid id body out h =
-    go (eqb (length body) 0) (ltb 84 (length body)) (ltb 0x3F id) (ltb (length out) (length (transmissionOf mid id body))) refl refl refl refl h
+    go (isForbidden mid) (eqb (length body) 0) (ltb 84 (length body)) (ltb 0x3F id) (ltb (length out) (length (transmissionOf mid id body))) refl refl refl refl refl h
   where
-    rows : (t u v w : Bool) → ℕ
-    rows t u v w = when (t or u) 31 (when v 32 (when w 34 0))
+    rows : (m t u v w : Bool) → ℕ
+    rows m t u v w = when m 19 (when (t or u) 31 (when v 32 (when w 34 0)))
 
-    go : (t u v w : Bool) → eqb (length body) 0 ≡ t → ltb 84 (length body) ≡ u → ltb 0x3F id ≡ v
+    go : (m t u v w : Bool) → isForbidden mid ≡ m → eqb (length body) 0 ≡ t → ltb 84 (length body) ≡ u → ltb 0x3F id ≡ v
         → ltb (length out) (length (transmissionOf mid id body)) ≡ w
-        → writtenTold (answerOf (rows t u v w) (transmissionOf mid id body)) .number ≡ 0
+        → writtenTold (answerOf (rows m t u v w) (transmissionOf mid id body)) .number ≡ 0
         → Written mid id body out
-    go true u v w a b c d e = absurd (omega arith)
-    go false true v w a b c d e = absurd (omega arith)
-    go false false true w a b c d e = absurd (omega arith)
-    go false false false true a b c d e = absurd (omega arith)
-    go false false false false a b c d e =
+    go true t u v w f a b c d e = absurd (omega arith)
+    go false true u v w f a b c d e = absurd (omega arith)
+    go false false true v w f a b c d e = absurd (omega arith)
+    go false false false true w f a b c d e = absurd (omega arith)
+    go false false false false true f a b c d e = absurd (omega arith)
+    go false false false false false f a b c d e =
         record {
           none =
-              ap (λ (t : Bool). rows t (ltb 84 (length body)) (ltb 0x3F id) (ltb (length out) (length (transmissionOf mid id body)))) a
-              ∙ ap (λ (t : Bool). rows false t (ltb 0x3F id) (ltb (length out) (length (transmissionOf mid id body)))) b
-              ∙ ap (λ (t : Bool). rows false false t (ltb (length out) (length (transmissionOf mid id body)))) c
-              ∙ ap (rows false false false) d;
+              ap (λ (t : Bool). rows t (eqb (length body) 0) (ltb 84 (length body)) (ltb 0x3F id) (ltb (length out) (length (transmissionOf mid id body)))) f
+              ∙ ap (λ (t : Bool). rows false t (ltb 84 (length body)) (ltb 0x3F id) (ltb (length out) (length (transmissionOf mid id body)))) a
+              ∙ ap (λ (t : Bool). rows false false t (ltb 0x3F id) (ltb (length out) (length (transmissionOf mid id body)))) b
+              ∙ ap (λ (t : Bool). rows false false false t (ltb (length out) (length (transmissionOf mid id body)))) c
+              ∙ ap (rows false false false false) d;
+          allowed = f;
           some = let z = eqb-false (length body) 0 a in omega arith;
           most = let z = ltb-false 84 (length body) b in omega arith;
           known = let z = ltb-false 0x3F id c in omega arith;
@@ -136,7 +141,7 @@ module _ (mid id : ℕ) (body out : List ℕ) (w : Written mid id body out) wher
       ap (λ (b : List ℕ). heardIn (receiveOf s mid b)) (packet-in p below)
       ∙ ap heardIn
       (copy-repeats s good mid (packetAt mid id body p) id (totalOf body) p (length (partOf body p))
-      (body-reads mid id body p (w .known) (w .some) (w .most) below)
+      (body-reads mid id body p (w .allowed) (w .known) (w .some) (w .most) below)
       (sym last))
 
 module _ (s : Sign) (good : Good s) (mid id : ℕ) (body out : List ℕ) (w : Written mid id body out) (awaits : Awaits s id) where
@@ -144,7 +149,7 @@ module _ (s : Sign) (good : Good s) (mid id : ℕ) (body out : List ℕ) (w : Wr
   found = ours .transmit mid id body out .buffer
 
   d : Delivered s mid id body
-  d = delivers s good mid id body (w .known) (w .some) (w .most) awaits
+  d = delivers s good mid id body (w .allowed) (w .known) (w .some) (w .most) awaits
 
   -- the position of the last packet
   abbrev final : ℕ

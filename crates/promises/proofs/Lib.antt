@@ -2,6 +2,7 @@ pub mod Bench
 pub mod Contracts
 pub mod Delivery
 pub mod Dispatch
+pub mod Guard
 pub mod Lent
 pub mod Line
 pub mod Ours

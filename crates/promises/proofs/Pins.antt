@@ -13,6 +13,7 @@ use Rattle.basis.specs.Choice.{_and_, within}
 use Rattle.basis.specs.Rows.{Row}
 use Rattle.basis.proofs.Choices.{and-parts, within-parts}
 use Rattle.basis.specs.Told.{Told, no}
+use Rattle.packet.specs.Mid.{isForbidden, Allowed}
 use Rattle.packet.specs.Write.{rightFields}
 use Rattle.packet.proofs.Fields.{parts-right}
 use Rattle.reader.specs.Read.{readOf, toldOf as readTold}
@@ -46,6 +47,7 @@ use Rattle.promises.specs.Record.{Heeds, Joins, stays}
 use Rattle.promises.specs.Keeps.{Keeps, SameHeard, SameNext, Same}
 use Rattle.promises.proofs.Wire.{heard-last}
 use Rattle.promises.proofs.Yes.{unheard-35}
+use Rattle.promises.proofs.Guard.{ours-guards}
 use Rattle.promises.proofs.Safe.{ours-never-trips}
 use Rattle.promises.proofs.Record.{ours-obeys}
 use Rattle.promises.proofs.Line.{ours-runs}
@@ -103,36 +105,44 @@ heeds-same u h x y e f = record { told = e .told ∙ sym (f .told); next = e .ne
 module _ {R : Type 0} (u : Calls R) (k : Keeps u) where
   -- the readers
   pins-read : (mid : ℕ) (b : List ℕ) → Bytes b → u .read mid b ≡ ours .read mid b
-  pins-read mid b bytes = go (readOf mid b) refl
+  pins-read mid b bytes = guarded (isForbidden mid) refl
     where
-      go : (x : Reading) → readOf mid b ≡ x → u .read mid b ≡ readTold (readOf mid b)
-      go QueryRead e = ap (u .read mid) (query-only mid b bytes e) ∙ k .wire .reads .queried mid ∙ ap readTold (sym e)
-      go ResetRead e = ap (u .read mid) (reset-only mid b bytes e) ∙ k .wire .reads .cleared mid ∙ ap readTold (sym e)
-      go (Normal id total position len) e =
+      go : Allowed mid → (x : Reading) → readOf mid b ≡ x → u .read mid b ≡ readTold (readOf mid b)
+      go allowed QueryRead e = ap (u .read mid) (query-only mid b bytes e) ∙ k .wire .reads .queried mid allowed ∙ ap readTold (sym e)
+      go allowed ResetRead e = ap (u .read mid) (reset-only mid b bytes e) ∙ k .wire .reads .cleared mid allowed ∙ ap readTold (sym e)
+      go allowed (Normal id total position len) e =
           let part = take len (drop 5 b) in
           let size : length part ≡ len = data-size mid b id total position len e in
           ap (u .read mid) (normal-only mid b id total position len bytes e)
-          ∙ k .wire .reads .normal mid id total position part (ap (rightFields id total position) size ∙ right-normal mid b id total position len e)
+          ∙ k .wire .reads .normal mid id total position part allowed (ap (rightFields id total position) size ∙ right-normal mid b id total position len e)
           ∙ ap (λ (n : ℕ). readTold (Normal id total position n)) size
           ∙ ap readTold (sym e)
-      go (Unread n) e = k .wire .reads .refused mid b n (refused-lowest mid b n e) ∙ ap readTold (sym e)
+      go allowed (Unread n) e = k .wire .reads .refused mid b n allowed (refused-lowest mid b n allowed e) ∙ ap readTold (sym e)
+
+      guarded : (t : Bool) → isForbidden mid ≡ t → u .read mid b ≡ readTold (readOf mid b)
+      guarded true e = k .guards .read mid b e ∙ sym (ours-guards .read mid b e)
+      guarded false e = go e (readOf mid b) refl
 
   pins-hear : (mid : ℕ) (b : List ℕ) → Bytes b → u .hear mid b ≡ ours .hear mid b
-  pins-hear mid b bytes = go (heardOf mid b) refl
+  pins-hear mid b bytes = guarded (isForbidden mid) refl
     where
-      go : (x : Status) → heardOf mid b ≡ x → u .hear mid b ≡ statusTold (heardOf mid b)
-      go (HeardReply last busy sink) e =
+      go : Allowed mid → (x : Status) → heardOf mid b ≡ x → u .hear mid b ≡ statusTold (heardOf mid b)
+      go allowed (HeardReply last busy sink) e =
           ap (u .hear mid) (reply-only mid b last busy sink bytes e)
-          ∙ k .wire .hears .heard mid last busy sink (heard-last mid b last busy sink e)
+          ∙ k .wire .hears .heard mid last busy sink allowed (heard-last mid b last busy sink e)
           ∙ ap statusTold (sym e)
-      go (Unheard n) e =
-          k .wire .hears .unheard mid b bytes
+      go allowed (Unheard n) e =
+          k .wire .hears .unheard mid b allowed bytes
           (λ last busy sink known same.
-          let h : Unheard n ≡ HeardReply last busy sink = sym e ∙ ap (heardOf mid) same ∙ reply-reads mid last busy sink known in
+          let h : Unheard n ≡ HeardReply last busy sink = sym e ∙ ap (heardOf mid) same ∙ reply-reads mid last busy sink allowed known in
           let z : _≡_ {A = ℕ} 0 1 = cc in
           omega arith)
-          ∙ ap no (unheard-35 mid b n e)
+          ∙ ap no (unheard-35 mid b n allowed e)
           ∙ ap statusTold (sym e)
+
+      guarded : (t : Bool) → isForbidden mid ≡ t → u .hear mid b ≡ statusTold (heardOf mid b)
+      guarded true e = k .guards .hear mid b e ∙ sym (ours-guards .hear mid b e)
+      guarded false e = go e (heardOf mid b) refl
 
   -- a body
   pins-judge : (b : List ℕ) → u .judge b ≡ ours .judge b

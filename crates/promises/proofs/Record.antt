@@ -8,10 +8,11 @@ use lib.Dec.{eqb, leb}
 use lib.ListN.{length, take, drop}
 use borrow.Author.Tests.{eqb-true, eqb-false}
 use Rattle.basis.specs.Choice.{when, _and_}
-use Rattle.basis.specs.Rows.{firstOf}
+use Rattle.basis.specs.Rows.{Row, firstOf}
 use Rattle.basis.specs.Told.{Told}
 use Rattle.basis.proofs.Choices.{when-true}
 use Rattle.basis.proofs.Tests.{tests}
+use Rattle.packet.specs.Mid.{midRow}
 use Rattle.packet.specs.Write.{shortBy, answerOf, bufferOf, toldOf as writtenTold}
 use Rattle.reader.specs.Read.{readOf}
 use Rattle.reader.specs.declared.read.Reading.the-variants.{Normal}
@@ -98,11 +99,11 @@ ours-clears s good =
     let e = when-true (soundOf s) _ _ (good .sound) in
     record { told = ap (λ (x : Cleared). clearedIn x .told) e; next = ap (λ (x : Cleared). x .sign) e }
 
--- a sound record tells these bytes, or 34
-tells : (s : Sign) → Good s → (bytes out : List ℕ) → Lays (shortBy bytes out ∷ []) bytes out (leftBy (toldRows s bytes out) bytes out)
-tells s good bytes out =
-    let rest = firstOf (shortBy bytes out ∷ []) in
-    let e : firstOf (toldRows s bytes out) ≡ rest = ap (λ (t : Bool). when (not t) 16 rest) (good .sound) in
+-- a sound record tells these bytes, or what the other rows say
+tells : (s : Sign) → Good s → (rows : List Row) (bytes out : List ℕ) → Lays rows bytes out (leftBy (toldRows s rows) bytes out)
+tells s good rows bytes out =
+    let rest = firstOf rows in
+    let e : firstOf (toldRows s rows) ≡ rest = ap (λ (t : Bool). when (not t) 16 rest) (good .sound) in
     record { told = ap (λ (k : ℕ). writtenTold (answerOf k bytes)) e; buffer = ap (λ (k : ℕ). bufferOf k bytes out) e }
 
 -- the repeater
@@ -157,8 +158,8 @@ ours-obeys =
       joins = ours-joins;
       steps = ours-steps;
       clears = ours-clears;
-      replies = λ s good mid sink out. tells s good (saysOf s mid sink) out;
-      copies = λ s good out. tells s good (runningBody s) out;
+      replies = λ s good mid sink out. tells s good (midRow mid ∷ shortBy (saysOf s mid sink) out ∷ []) (saysOf s mid sink) out;
+      copies = λ s good out. tells s good (shortBy (runningBody s) out ∷ []) (runningBody s) out;
       stretch = ours-stretch;
       standing = ours-standing;
       outside = ours-outside;

@@ -6,6 +6,7 @@ use mathlib.Core.Path.{_≡_, refl, ap}
 use Rattle.basis.specs.Choice.{when}
 use Rattle.basis.specs.Rows.{Row, firstOf}
 use Rattle.basis.specs.Told.{no}
+use Rattle.packet.specs.Mid.{midRow}
 use Rattle.packet.specs.Wire.{queryOf, resetOf as resetPacket, packetAt, transmissionOf, replyOf}
 use Rattle.packet.specs.Write.{shortBy, packetRows, transmissionRows, answerOf, bufferOf, toldOf as writtenTold}
 use Rattle.reply.specs.Reply.{replyRows}
@@ -20,7 +21,7 @@ use Rattle.sign.specs.Receive.{receiveOf}
 use Rattle.sign.specs.Reset.{resetOf, clearedOf}
 use Rattle.sign.specs.Sound.{soundOf}
 use Rattle.sign.specs.Step.{stepOf}
-use Rattle.sign.specs.Tell.{saysOf, runningBody, toldRows}
+use Rattle.sign.specs.Tell.{saysOf, runningBody, toldRows, saysRows, copyRows}
 use Rattle.sign.specs.declared.Sign.{Sign}
 use Rattle.sign.specs.declared.Received.{Received}
 use Rattle.sign.specs.declared.Stepped.{Stepped}
@@ -56,8 +57,8 @@ leaves rows bytes out h = go (firstOf (rows out)) h
     go (suc k) w = refl
 
 -- an unsound record is 16 before all else
-sixteen : (s : Sign) (bytes out : List ℕ) → soundOf s ≡ false → leftBy (toldRows s bytes out) bytes out .told ≡ no 16
-sixteen s bytes out e = ap (λ (t : Bool). writtenTold (answerOf (when (not t) 16 (firstOf (shortBy bytes out ∷ []))) bytes)) e
+sixteen : (s : Sign) (rows : List Row) (bytes out : List ℕ) → soundOf s ≡ false → leftBy (toldRows s rows) bytes out .told ≡ no 16
+sixteen s rows bytes out e = ap (λ (t : Bool). writtenTold (answerOf (when (not t) 16 (firstOf rows)) bytes)) e
 
 unsound-clears : (s : Sign) → soundOf s ≡ false → clearedIn (clearedOf s) .told ≡ no 16
 unfolding clearedOf
@@ -78,16 +79,16 @@ ours-never-trips =
       receive-empty = λ s mid b h. receive-none s mid b (ap movesOf (refused-is (receiveOf s mid b .outcome) h));
       step-leaves = λ s h. step-still s (answerTold (stepOf s .answer) .number) (stopped-is (stepOf s .answer) h);
       clear-leaves = λ s h. reset-still s (outcomeTold (clearedOf s .outcome) .number) (refused-is (clearedOf s .outcome) h);
-      query-leaves = λ mid. leaves (λ out. shortBy (queryOf mid) out ∷ []) (queryOf mid);
-      reset-leaves = λ mid. leaves (λ out. shortBy (resetPacket mid) out ∷ []) (resetPacket mid);
-      write-leaves = λ mid id body position. leaves (packetRows mid id body position) (packetAt mid id body position);
-      transmit-leaves = λ mid id body. leaves (transmissionRows mid id body) (transmissionOf mid id body);
-      answer-leaves = λ mid last busy sink. leaves (replyRows mid last busy sink) (replyOf mid last busy sink);
-      reply-leaves = λ s mid sink. leaves (toldRows s (saysOf s mid sink)) (saysOf s mid sink);
-      copy-leaves = λ s. leaves (toldRows s (runningBody s)) (runningBody s);
+      query-leaves = λ mid. leaves (λ out. midRow mid ∷ shortBy (queryOf mid) out ∷ []) (queryOf mid);
+      reset-leaves = λ mid. leaves (λ out. midRow mid ∷ shortBy (resetPacket mid) out ∷ []) (resetPacket mid);
+      write-leaves = λ mid id body position. leaves (λ out. midRow mid ∷ packetRows mid id body position out) (packetAt mid id body position);
+      transmit-leaves = λ mid id body. leaves (λ out. midRow mid ∷ transmissionRows mid id body out) (transmissionOf mid id body);
+      answer-leaves = λ mid last busy sink. leaves (λ out. midRow mid ∷ replyRows mid last busy sink out) (replyOf mid last busy sink);
+      reply-leaves = λ s mid sink. leaves (saysRows s mid sink) (saysOf s mid sink);
+      copy-leaves = λ s. leaves (copyRows s) (runningBody s);
       receive-unsound = λ s mid b e. ap (λ (r : Received). heardIn r .told) (unsound-receives s mid b e);
       step-unsound = λ s e. ap (λ (r : Stepped). steppedIn r .told) (unsound-steps s e);
       clear-unsound = unsound-clears;
-      reply-unsound = λ s mid sink out e. sixteen s (saysOf s mid sink) out e;
-      copy-unsound = λ s out e. sixteen s (runningBody s) out e;
+      reply-unsound = λ s mid sink out e. sixteen s (midRow mid ∷ shortBy (saysOf s mid sink) out ∷ []) (saysOf s mid sink) out e;
+      copy-unsound = λ s out e. sixteen s (shortBy (runningBody s) out ∷ []) (runningBody s) out e;
     }

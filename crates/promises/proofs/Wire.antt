@@ -13,36 +13,34 @@ use Rattle.basis.specs.Rows.{Row, firstOf}
 use Rattle.basis.specs.Told.{no}
 use Rattle.basis.proofs.Laid.{take-laid, drop-laid}
 use Rattle.basis.proofs.Tests.{tests}
+use Rattle.packet.specs.Mid.{Allowed, midRow}
 use Rattle.packet.specs.Wire.{fifthOf, queryOf, resetOf, totalOf, partOf, packetAt, transmissionOf, replyOf}
 use Rattle.packet.specs.Write.{shortBy, packetRows, transmissionRows, answerOf, bufferOf, toldOf as writtenTold}
-use Rattle.packet.proofs.Fields.{right-parts}
 use Rattle.packet.proofs.Parts.{part-length}
 use Rattle.packet.proofs.Stands.{at-length, part-stands}
 use Rattle.reader.specs.Read.{readOf, toldOf as readTold}
 use Rattle.reader.specs.declared.read.Reading.{Reading}
-use Rattle.reader.proofs.ReadBack.{query-reads, reset-reads, packet-reads, body-reads}
+use Rattle.reader.proofs.ReadBack.{query-reads, reset-reads, body-reads, normal-reads}
 use Rattle.reader.proofs.Unique.{normal-only, same-fields, query-only, reset-only}
 use Rattle.reader.proofs.Refusals.{refused-lowest, lowest-refused, no-packet}
-use Rattle.reply.specs.Reply.{isLast, isReply, heardOf, replyRows, toldOf as statusTold}
+use Rattle.reply.specs.Reply.{isLast, isReply, heardFrom, heardOf, replyRows, toldOf as statusTold}
 use Rattle.reply.specs.declared.Status.{Status}
 use Rattle.reply.specs.declared.Status.the-variants.{Heard, Refused as Unheard}
-use Rattle.reply.proofs.Replies.{reply-reads, reply-only, same-reply}
+use Rattle.reply.proofs.Replies.{reply-reads, reply-only, same-reply, heard-past}
 use Rattle.promises.specs.Unit.{leftBy, ours}
 use Rattle.promises.specs.Wire.{ReadsBack, HearsBack, Lays, Reads, Hears, Writes, WireHolds}
 use Rattle.promises.proofs.Yes.{read-no, unheard-35}
 use Rattle.promises.proofs.Tellings.{query-told, reset-told, normal-told, refused-told, heard-told}
 
-module _ (mid id : ℕ) (body : List ℕ) (position : ℕ) (out : List ℕ) (normal : id ≤ 0x3F) (some : 1 ≤ length body) (most : length body ≤ 84)
+module _ (mid id : ℕ) (body : List ℕ) (position : ℕ) (out : List ℕ) (allowed : Allowed mid) (normal : id ≤ 0x3F) (some : 1 ≤ length body) (most : length body ≤ 84)
     (below : position < totalOf body)
     (room : length (packetAt mid id body position) ≤ length out) where
   -- nothing refuses the packet
-  none : firstOf (packetRows mid id body position out) ≡ 0
+  none : firstOf (midRow mid ∷ packetRows mid id body position out) ≡ 0
   none =
       let full : length body ≡ 0 → ⊥ = omega arith in
       let enough = room in
-      let few : length body < 85 = omega arith in
-      let low : id < 0x40 = omega arith in
-      search (tests, full, enough, few, low)
+      search (tests, allowed, full, enough)
 
   pub ours-back : ReadsBack ours mid id body position out (length (packetAt mid id body position))
   unfolding laid
@@ -60,7 +58,7 @@ module _ (mid id : ℕ) (body : List ℕ) (position : ℕ) (out : List ℕ) (nor
         fields =
             ap (λ (x : List ℕ). readTold (readOf mid (take n x))) laying
             ∙ ap (λ (x : List ℕ). readTold (readOf mid x)) (take-laid p out)
-            ∙ ap readTold (body-reads mid id body position normal some most below);
+            ∙ ap readTold (body-reads mid id body position allowed normal some most below);
         carried =
             ap (λ (x : List ℕ). take (length part) (drop 5 x)) laying
             ∙ ap (take (length part)) (drop-append-le 5 p behind long)
@@ -69,13 +67,13 @@ module _ (mid id : ℕ) (body : List ℕ) (position : ℕ) (out : List ℕ) (nor
         behind = ap (drop n) laying ∙ drop-laid p out;
       }
 
-module _ (mid last : ℕ) (busy sink : Bool) (out : List ℕ) (known : isLast last ≡ true) (room : 8 ≤ length out) where
+module _ (mid last : ℕ) (busy sink : Bool) (out : List ℕ) (allowed : Allowed mid) (known : isLast last ≡ true) (room : 8 ≤ length out) where
   -- nothing refuses the reply
-  free : firstOf (replyRows mid last busy sink out) ≡ 0
+  free : firstOf (midRow mid ∷ replyRows mid last busy sink out) ≡ 0
   unfolding replyOf
   free =
       let enough : length (replyOf mid last busy sink) ≤ length out = omega arith in
-      search (tests, enough, known)
+      search (tests, allowed, enough, known)
 
   pub ours-hears-back : HearsBack ours mid last busy sink out
   unfolding replyOf
@@ -85,7 +83,7 @@ module _ (mid last : ℕ) (busy sink : Bool) (out : List ℕ) (known : isLast la
       let front : take 8 (ours .answer mid last busy sink out .buffer) ≡ p = ap (take 8) laying ∙ take-laid p out in
       record {
         count = ap (λ (k : ℕ). writtenTold (answerOf k p)) free;
-        told = ap (λ (x : List ℕ). statusTold (heardOf mid x)) front ∙ ap statusTold (reply-reads mid last busy sink known);
+        told = ap (λ (x : List ℕ). statusTold (heardOf mid x)) front ∙ ap statusTold (reply-reads mid last busy sink allowed known);
         behind = ap (drop 8) laying ∙ drop-laid p out;
         apart = λ m z.
             let e = no-packet m mid last busy sink in
@@ -96,16 +94,14 @@ module _ (mid last : ℕ) (busy sink : Bool) (out : List ℕ) (known : isLast la
 pub ours-reads : Reads ours
 ours-reads =
     record {
-      queried = λ mid. ap readTold (query-reads mid);
+      queried = λ mid allowed. ap readTold (query-reads mid allowed);
       query-only = λ mid b bytes e. query-only mid b bytes (query-told (readOf mid b) e);
-      cleared = λ mid. ap readTold (reset-reads mid);
+      cleared = λ mid allowed. ap readTold (reset-reads mid allowed);
       reset-only = λ mid b bytes e. reset-only mid b bytes (reset-told (readOf mid b) e);
-      normal = λ mid id total position part e.
-          let r = right-parts id total position (length part) e in
-          ap readTold (packet-reads mid id total position part (r .normal) (r .least) (r .most) (r .below) (r .some) (r .few) (r .full));
+      normal = λ mid id total position part allowed e. ap readTold (normal-reads mid id total position part allowed e);
       normal-only = λ mid b id total position len bytes e. normal-only mid b id total position len bytes (normal-told (readOf mid b) id total position len e);
-      lowest = λ mid b k e. refused-lowest mid b k (refused-told (readOf mid b) k e);
-      refused = λ mid b k l. ap readTold (lowest-refused mid b k l);
+      lowest = λ mid b k allowed e. refused-lowest mid b k allowed (refused-told (readOf mid b) k e);
+      refused = λ mid b k allowed l. ap readTold (lowest-refused mid b k allowed l);
     }
 
 -- what was heard has a last ID that a sign may have
@@ -118,23 +114,24 @@ told-last true false w l last b c busy sink h e = let z : _≡_ {A = ℕ} 0 1 = 
 told-last false v w l last b c busy sink h e = let z : _≡_ {A = ℕ} 0 1 = cc in absurd (omega arith)
 
 pub heard-last : (mid : ℕ) (b : List ℕ) (last : ℕ) (busy sink : Bool) → heardOf mid b ≡ Heard last busy sink → isLast last ≡ true
-unfolding heardOf
+unfolding heardFrom
 heard-last mid b last busy sink e =
-    told-last (isReply mid b) (isLast (getD b 3 0)) _ (getD b 3 0) last (eqb (getD b 4 0) 0x42) (eqb (getD b 5 0) 0x53) busy sink refl e
+    told-last (isReply mid b) (isLast (getD b 3 0)) _ (getD b 3 0) last (eqb (getD b 4 0) 0x42) (eqb (getD b 5 0) 0x53) busy sink refl
+    (heard-past mid b last busy sink e .1)
 
 pub ours-hears : Hears ours
 ours-hears =
     record {
-      heard = λ mid last busy sink known. ap statusTold (reply-reads mid last busy sink known);
-      unheard = λ mid b bytes none. go mid b bytes none (heardOf mid b) refl;
+      heard = λ mid last busy sink allowed known. ap statusTold (reply-reads mid last busy sink allowed known);
+      unheard = λ mid b allowed bytes none. go mid b allowed bytes none (heardOf mid b) refl;
     }
   where
-    go : (mid : ℕ) (b : List ℕ) → Bytes b → ((last : ℕ) (busy sink : Bool) → isLast last ≡ true → b ≡ replyOf mid last busy sink → ⊥) → (x : Status)
+    go : (mid : ℕ) (b : List ℕ) → Allowed mid → Bytes b → ((last : ℕ) (busy sink : Bool) → isLast last ≡ true → b ≡ replyOf mid last busy sink → ⊥) → (x : Status)
         → heardOf mid b ≡ x
         → statusTold (heardOf mid b) ≡ no 35
-    go mid b bytes none (Heard last busy sink) e =
+    go mid b allowed bytes none (Heard last busy sink) e =
         absurd (none last busy sink (heard-last mid b last busy sink e) (reply-only mid b last busy sink bytes e))
-    go mid b bytes none (Unheard n) e = ap statusTold e ∙ ap no (sym (unheard-35 mid b n e))
+    go mid b allowed bytes none (Unheard n) e = ap statusTold e ∙ ap no (sym (unheard-35 mid b n allowed e))
 
 -- a writer of ours, by its rows
 pub lays : (rows : List Row) (bytes out : List ℕ) → Lays rows bytes out (leftBy rows bytes out)
@@ -143,11 +140,11 @@ lays rows bytes out = record { told = refl; buffer = refl }
 pub ours-writes : Writes ours
 ours-writes =
     record {
-      queries = λ mid out. lays (shortBy (queryOf mid) out ∷ []) (queryOf mid) out;
-      resets = λ mid out. lays (shortBy (resetOf mid) out ∷ []) (resetOf mid) out;
-      writes = λ mid id body position out. lays (packetRows mid id body position out) (packetAt mid id body position) out;
-      transmits = λ mid id body out. lays (transmissionRows mid id body out) (transmissionOf mid id body) out;
-      replies = λ mid last busy sink out. lays (replyRows mid last busy sink out) (replyOf mid last busy sink) out;
+      queries = λ mid out. lays (midRow mid ∷ shortBy (queryOf mid) out ∷ []) (queryOf mid) out;
+      resets = λ mid out. lays (midRow mid ∷ shortBy (resetOf mid) out ∷ []) (resetOf mid) out;
+      writes = λ mid id body position out. lays (midRow mid ∷ packetRows mid id body position out) (packetAt mid id body position) out;
+      transmits = λ mid id body out. lays (midRow mid ∷ transmissionRows mid id body out) (transmissionOf mid id body) out;
+      replies = λ mid last busy sink out. lays (midRow mid ∷ replyRows mid last busy sink out) (replyOf mid last busy sink) out;
     }
 
 pub ours-holds : WireHolds ours

@@ -7,6 +7,7 @@ use native.Mathlib.Omega.{arith}
 use lib.ListN.{length, getD, replicate}
 use Rattle.basis.specs.Bytes.{Bytes, sum, laid}
 use Rattle.basis.specs.Told.{Told}
+use Rattle.packet.specs.Mid.{isForbidden}
 use Rattle.packet.specs.Wire.{packetOf, packetsOf, packetAt, queryOf, replyOf, partOf}
 use Rattle.program.specs.Command.{readOf as commandAt}
 use Rattle.perform.specs.Price.{answerOf}
@@ -14,10 +15,10 @@ use Rattle.perform.specs.Settings.{soundOf as settingsSound}
 use Rattle.perform.specs.declared.settings.Settings.{Settings}
 use Rattle.judge.specs.Standing.{standOf}
 use Rattle.judge.specs.Verdict.{judgeOf}
-use Rattle.reader.specs.Read.{readOf}
+use Rattle.reader.specs.Read.{lowestOf, readOf}
 use Rattle.reader.specs.declared.read.Reading.the-variants.{Refused as Unread}
 use Rattle.reader.proofs.Refusals.{refused-lowest}
-use Rattle.reply.specs.Reply.{isLast, heardOf}
+use Rattle.reply.specs.Reply.{isLast, heardFrom, heardOf}
 use Rattle.course.specs.Steps.{settle}
 use Rattle.collect.specs.Slots.{slotsOf, heldOf, joinedOf, sameOf, begunOf, storedOf}
 use Rattle.collect.specs.Sound.{soundOf as collectionSound}
@@ -38,10 +39,11 @@ use Rattle.sign.specs.Step.{stepOf}
 use Rattle.sign.specs.declared.Sign.{Sign}
 use Rattle.repeater.specs.Repeat.{repeatOf}
 use Rattle.service.specs.Good.{Roomy}
-use Rattle.promises.specs.Bench.{hi, w5}
+use Rattle.promises.specs.Bench.{hi, query7F, w5}
 use Rattle.promises.specs.Unit.{Wrote, ours, valueAt}
 use Rattle.promises.specs.Keeps.{Keeps}
-use Rattle.promises.specs.Wrong.{refusing, eager, noisy, rumour, hearsay, idle, scribbling, trusting, madeUp, inventing, lenient, atOnce, fixed, startingOver, shaken, forgetful, agreeable, deaf, orderly, surly, jumpy, frozen, sulking, drowsy, rosy, mute, parrot, dated, trailing, encore, counting}
+use Rattle.promises.specs.Wrong.{refusing, eager, noisy, misled, misset, wary, hurried, sorry, rumour, hearsay, idle, scribbling, trusting, madeUp, inventing, lenient, atOnce, fixed, startingOver, shaken, forgetful, agreeable, deaf, orderly, surly, jumpy, frozen, sulking, drowsy, rosy, mute, parrot, dated, trailing, encore, counting}
+use Rattle.promises.specs.Guard.{unguarded}
 use Rattle.promises.proofs.Pins.{no-other-unit}
 
 -- the settings that a sign is set to when it is switched on
@@ -73,23 +75,47 @@ room20 : List ℕ
 room20 = replicate 20 0
 
 pub refusing-fails : Keeps refusing → ⊥
+unfolding isForbidden
 refusing-fails k =
-    let n : _≡_ {A = ℕ} 1 0 = ap (λ (t : Told). t .number) (k .wire .reads .queried 0x80) in
+    let n : _≡_ {A = ℕ} 1 0 = ap (λ (t : Told). t .number) (k .wire .reads .queried 0x80 refl) in
     omega arith
 
 pub eager-fails : Keeps eager → ⊥
-unfolding packetOf sum readOf
+unfolding packetOf sum isForbidden lowestOf readOf
 eager-fails k =
-    let n : _≡_ {A = ℕ} 2 1 = ap (valueAt 0) (k .wire .reads .queried 0x80) in
+    let n : _≡_ {A = ℕ} 2 1 = ap (valueAt 0) (k .wire .reads .queried 0x80 refl) in
     omega arith
 
 nothing-read : readOf 0x80 [] ≡ Unread 1
-unfolding readOf
+unfolding isForbidden lowestOf readOf
 nothing-read = refl
 
 pub noisy-fails : Keeps noisy → ⊥
+unfolding isForbidden
 noisy-fails k =
-    let n : _≡_ {A = ℕ} 2 0 = ap (valueAt 0) (k .wire .reads .refused 0x80 [] 1 (refused-lowest 0x80 [] 1 nothing-read)) in
+    let n : _≡_ {A = ℕ} 2 0 = ap (valueAt 0) (k .wire .reads .refused 0x80 [] 1 refl (refused-lowest 0x80 [] 1 refl nothing-read)) in
+    omega arith
+
+query-bytes : Bytes query7F
+query-bytes = (omega arith, (omega arith, (omega arith, (omega arith, (omega arith, (omega arith, (omega arith, tt)))))))
+
+-- the unit of version 1.1 takes 7Fh
+pub unguarded-fails : Keeps unguarded → ⊥
+unfolding sum isForbidden lowestOf
+unguarded-fails k =
+    let n : _≡_ {A = ℕ} 0 19 = ap (λ (t : Told). t .number) (k .guards .read 0x7F query7F refl) in
+    omega arith
+
+pub misled-fails : Keeps misled → ⊥
+unfolding sum isForbidden lowestOf readOf
+misled-fails k =
+    let n : _≡_ {A = ℕ} 19 5 = ap (λ (t : Told). t .number) (no-other-unit misled k .read 0x80 query7F query-bytes) in
+    omega arith
+
+pub sorry-fails : Keeps sorry → ⊥
+unfolding room20 laid sum packetOf partOf isForbidden
+sorry-fails k =
+    let n : _≡_ {A = ℕ} 0x7F 0 = ap (λ (w : Wrote). getD (w .buffer) 0 0) (k .guards .write 0x7F 5 hi 0 room20 refl) in
     omega arith
 
 rumour-bytes : Bytes rumour
@@ -105,19 +131,19 @@ no-reply last busy sink known e =
     omega arith
 
 pub hearsay-fails : Keeps hearsay → ⊥
-unfolding sameOf
+unfolding sameOf isForbidden
 hearsay-fails k =
-    let n : _≡_ {A = ℕ} 0 35 = ap (λ (t : Told). t .number) (k .wire .hears .unheard 0x80 rumour rumour-bytes no-reply) in
+    let n : _≡_ {A = ℕ} 0 35 = ap (λ (t : Told). t .number) (k .wire .hears .unheard 0x80 rumour refl rumour-bytes no-reply) in
     omega arith
 
 pub idle-fails : Keeps idle → ⊥
-unfolding room20 packetOf partOf
+unfolding room20 packetOf partOf isForbidden
 idle-fails k =
     let n : _≡_ {A = ℕ} 0 12 = ap (λ (w : Wrote). valueAt 0 (w .told)) (no-other-unit idle k .write 0x80 5 hi 0 room20) in
     omega arith
 
 pub scribbling-fails : Keeps scribbling → ⊥
-unfolding room20 packetOf partOf
+unfolding room20 packetOf partOf isForbidden
 scribbling-fails k =
     let n : _≡_ {A = ℕ} 34 0 = ap (λ (w : Wrote). w .told .number) (no-other-unit scribbling k .write 0x80 5 hi 0 room20) in
     omega arith
@@ -153,25 +179,25 @@ at-once-fails k =
     omega arith
 
 pub fixed-fails : Keeps fixed → ⊥
-unfolding freshOf readyOf startedOf clearedOf stepOf runStep settle answerOf receiveOf joinOf releaseOf staysOf soundOf runSound collectionSound judgeOf commandAt settingsSound roomOf slotsOf heldOf joinedOf sameOf begunOf storedOf standOf laid sum packetOf partOf packetsOf replyOf readOf heardOf repeatOf
+unfolding freshOf readyOf startedOf clearedOf stepOf runStep settle answerOf receiveOf joinOf releaseOf staysOf soundOf runSound collectionSound judgeOf commandAt settingsSound roomOf slotsOf heldOf joinedOf sameOf begunOf storedOf standOf laid sum packetOf partOf packetsOf replyOf isForbidden lowestOf readOf heardFrom heardOf repeatOf
 fixed-fails k =
     let n : _≡_ {A = ℕ} 1 3 = ap length (no-other-unit fixed k .receive powerOn roomy-on 0x80 (packetAt 0x80 5 w5 0) .body) in
     omega arith
 
 pub starting-over-fails : Keeps startingOver → ⊥
-unfolding shows freshOf readyOf startedOf clearedOf stepOf runStep settle answerOf receiveOf joinOf releaseOf staysOf soundOf runSound collectionSound judgeOf commandAt settingsSound roomOf slotsOf heldOf joinedOf sameOf begunOf storedOf standOf laid sum packetOf partOf packetsOf replyOf readOf heardOf repeatOf
+unfolding shows freshOf readyOf startedOf clearedOf stepOf runStep settle answerOf receiveOf joinOf releaseOf staysOf soundOf runSound collectionSound judgeOf commandAt settingsSound roomOf slotsOf heldOf joinedOf sameOf begunOf storedOf standOf laid sum packetOf partOf packetsOf replyOf isForbidden lowestOf readOf heardFrom heardOf repeatOf
 starting-over-fails k =
     let n : _≡_ {A = ℕ} 0 3 = ap (λ (s : Sign). s .run .len) (no-other-unit startingOver k .receive (shows w5) roomy-w5 0x80 [] .next) in
     omega arith
 
 pub shaken-fails : Keeps shaken → ⊥
-unfolding shows freshOf readyOf startedOf clearedOf stepOf runStep settle answerOf receiveOf joinOf releaseOf staysOf soundOf runSound collectionSound judgeOf commandAt settingsSound roomOf slotsOf heldOf joinedOf sameOf begunOf storedOf standOf laid sum packetOf partOf packetsOf replyOf readOf heardOf repeatOf
+unfolding shows freshOf readyOf startedOf clearedOf stepOf runStep settle answerOf receiveOf joinOf releaseOf staysOf soundOf runSound collectionSound judgeOf commandAt settingsSound roomOf slotsOf heldOf joinedOf sameOf begunOf storedOf standOf laid sum packetOf partOf packetsOf replyOf isForbidden lowestOf readOf heardFrom heardOf repeatOf
 shaken-fails k =
     let n : _≡_ {A = ℕ} 0 3 = ap (λ (s : Sign). s .run .len) (no-other-unit shaken k .receive (shows w5) roomy-w5 0x80 [] .next) in
     omega arith
 
 pub forgetful-fails : Keeps forgetful → ⊥
-unfolding freshOf readyOf startedOf clearedOf stepOf runStep settle answerOf receiveOf joinOf releaseOf staysOf soundOf runSound collectionSound judgeOf commandAt settingsSound roomOf slotsOf heldOf joinedOf sameOf begunOf storedOf standOf laid sum packetOf partOf packetsOf replyOf readOf heardOf repeatOf
+unfolding freshOf readyOf startedOf clearedOf stepOf runStep settle answerOf receiveOf joinOf releaseOf staysOf soundOf runSound collectionSound judgeOf commandAt settingsSound roomOf slotsOf heldOf joinedOf sameOf begunOf storedOf standOf laid sum packetOf partOf packetsOf replyOf isForbidden lowestOf readOf heardFrom heardOf repeatOf
 forgetful-fails k =
     let n : _≡_ {A = ℕ} 0x41 5 = ap (λ (s : Sign). s .last) (no-other-unit forgetful k .receive powerOn roomy-on 0x80 (packetAt 0x80 5 w5 0) .next) in
     omega arith
@@ -185,41 +211,63 @@ collecting : Sign
 collecting = ours .receive powerOn 0x80 (packetAt 0x80 5 (long 0x5E) 0) .next
 
 roomy-collecting : Roomy collecting
-unfolding collecting long freshOf readyOf startedOf clearedOf stepOf runStep settle answerOf receiveOf joinOf releaseOf staysOf soundOf runSound collectionSound judgeOf commandAt settingsSound roomOf slotsOf heldOf joinedOf sameOf begunOf storedOf standOf laid sum packetOf partOf packetsOf replyOf readOf heardOf repeatOf
+unfolding collecting long freshOf readyOf startedOf clearedOf stepOf runStep settle answerOf receiveOf joinOf releaseOf staysOf soundOf runSound collectionSound judgeOf commandAt settingsSound roomOf slotsOf heldOf joinedOf sameOf begunOf storedOf standOf laid sum packetOf partOf packetsOf replyOf isForbidden lowestOf readOf heardFrom heardOf repeatOf
 roomy-collecting = record { lens = refl; room = refl }
 
 pub agreeable-fails : Keeps agreeable → ⊥
-unfolding collecting long freshOf readyOf startedOf clearedOf stepOf runStep settle answerOf receiveOf joinOf releaseOf staysOf soundOf runSound collectionSound judgeOf commandAt settingsSound roomOf slotsOf heldOf joinedOf sameOf begunOf storedOf standOf laid sum packetOf partOf packetsOf replyOf readOf heardOf repeatOf
+unfolding collecting long freshOf readyOf startedOf clearedOf stepOf runStep settle answerOf receiveOf joinOf releaseOf staysOf soundOf runSound collectionSound judgeOf commandAt settingsSound roomOf slotsOf heldOf joinedOf sameOf begunOf storedOf standOf laid sum packetOf partOf packetsOf replyOf isForbidden lowestOf readOf heardFrom heardOf repeatOf
 agreeable-fails k =
     let n : _≡_ {A = ℕ} 0 13 = ap (λ (t : Told). t .number) (no-other-unit agreeable k .receive collecting roomy-collecting 0x80 (packetAt 0x80 5 (long 0x5F) 0) .told) in
     omega arith
 
 pub deaf-fails : Keeps deaf → ⊥
-unfolding freshOf readyOf startedOf clearedOf stepOf runStep settle answerOf receiveOf joinOf releaseOf staysOf soundOf runSound collectionSound judgeOf commandAt settingsSound roomOf slotsOf heldOf joinedOf sameOf begunOf storedOf standOf laid sum packetOf partOf packetsOf replyOf readOf heardOf repeatOf
+unfolding freshOf readyOf startedOf clearedOf stepOf runStep settle answerOf receiveOf joinOf releaseOf staysOf soundOf runSound collectionSound judgeOf commandAt settingsSound roomOf slotsOf heldOf joinedOf sameOf begunOf storedOf standOf laid sum packetOf partOf packetsOf replyOf isForbidden lowestOf readOf heardFrom heardOf repeatOf
 deaf-fails k =
     let n : _≡_ {A = ℕ} 0 5 = ap (λ (t : Told). t .number) (no-other-unit deaf k .receive powerOn roomy-on 0x81 (packetAt 0x80 5 w5 0) .told) in
     omega arith
 
+pub misset-fails : Keeps misset → ⊥
+unfolding freshOf readyOf startedOf clearedOf stepOf runStep settle answerOf receiveOf joinOf releaseOf staysOf soundOf runSound collectionSound judgeOf commandAt settingsSound roomOf slotsOf heldOf joinedOf sameOf begunOf storedOf standOf laid sum packetOf partOf packetsOf replyOf isForbidden lowestOf readOf heardFrom heardOf repeatOf
+misset-fails k =
+    let n : _≡_ {A = ℕ} 19 5 = ap (λ (t : Told). t .number) (no-other-unit misset k .receive powerOn roomy-on 0x80 query7F .told) in
+    omega arith
+
+pub wary-fails : Keeps wary → ⊥
+unfolding freshOf readyOf startedOf clearedOf stepOf runStep settle answerOf receiveOf joinOf releaseOf staysOf soundOf runSound collectionSound judgeOf commandAt settingsSound roomOf slotsOf heldOf joinedOf sameOf begunOf storedOf standOf laid sum packetOf partOf packetsOf replyOf isForbidden lowestOf readOf heardFrom heardOf repeatOf
+wary-fails k =
+    let n : _≡_ {A = ℕ} 19 0 = ap (λ (t : Told). t .number) (no-other-unit wary k .receive powerOn roomy-on 0x7D (queryOf 0x7D) .told) in
+    omega arith
+
+-- a sign whose last ID is that of a query, which is not sound
+queried : Sign
+queried = record { last = 0x40; slots = powerOn .slots; room = powerOn .room; run = powerOn .run }
+
+pub hurried-fails : Keeps hurried → ⊥
+unfolding queried freshOf readyOf startedOf clearedOf stepOf runStep settle answerOf receiveOf joinOf releaseOf staysOf soundOf runSound collectionSound judgeOf commandAt settingsSound roomOf slotsOf heldOf joinedOf sameOf begunOf storedOf standOf laid sum packetOf partOf packetsOf replyOf isForbidden lowestOf readOf heardFrom heardOf repeatOf
+hurried-fails k =
+    let n : _≡_ {A = ℕ} 19 16 = ap (λ (t : Told). t .number) (k .safe .receive-unsound queried 0x7F [] refl) in
+    omega arith
+
 pub orderly-fails : Keeps orderly → ⊥
-unfolding long freshOf readyOf startedOf clearedOf stepOf runStep settle answerOf receiveOf joinOf releaseOf staysOf soundOf runSound collectionSound judgeOf commandAt settingsSound roomOf slotsOf heldOf joinedOf sameOf begunOf storedOf standOf laid sum packetOf partOf packetsOf replyOf readOf heardOf repeatOf
+unfolding long freshOf readyOf startedOf clearedOf stepOf runStep settle answerOf receiveOf joinOf releaseOf staysOf soundOf runSound collectionSound judgeOf commandAt settingsSound roomOf slotsOf heldOf joinedOf sameOf begunOf storedOf standOf laid sum packetOf partOf packetsOf replyOf isForbidden lowestOf readOf heardFrom heardOf repeatOf
 orderly-fails k =
     let n : _≡_ {A = ℕ} 13 0 = ap (λ (t : Told). t .number) (no-other-unit orderly k .receive powerOn roomy-on 0x80 (packetAt 0x80 5 (long 0x5E) 1) .told) in
     omega arith
 
 pub surly-fails : Keeps surly → ⊥
-unfolding freshOf readyOf startedOf clearedOf stepOf runStep settle answerOf receiveOf joinOf releaseOf staysOf soundOf runSound collectionSound judgeOf commandAt settingsSound roomOf slotsOf heldOf joinedOf sameOf begunOf storedOf standOf laid sum packetOf partOf packetsOf replyOf readOf heardOf repeatOf
+unfolding freshOf readyOf startedOf clearedOf stepOf runStep settle answerOf receiveOf joinOf releaseOf staysOf soundOf runSound collectionSound judgeOf commandAt settingsSound roomOf slotsOf heldOf joinedOf sameOf begunOf storedOf standOf laid sum packetOf partOf packetsOf replyOf isForbidden lowestOf readOf heardFrom heardOf repeatOf
 surly-fails k =
     let n : _≡_ {A = ℕ} 99 0 = ap (λ (t : Told). t .number) (no-other-unit surly k .receive powerOn roomy-on 0x80 (queryOf 0x80) .told) in
     omega arith
 
 pub jumpy-fails : Keeps jumpy → ⊥
-unfolding freshOf readyOf startedOf clearedOf stepOf runStep settle answerOf receiveOf joinOf releaseOf staysOf soundOf runSound collectionSound judgeOf commandAt settingsSound roomOf slotsOf heldOf joinedOf sameOf begunOf storedOf standOf laid sum packetOf partOf packetsOf replyOf readOf heardOf repeatOf
+unfolding freshOf readyOf startedOf clearedOf stepOf runStep settle answerOf receiveOf joinOf releaseOf staysOf soundOf runSound collectionSound judgeOf commandAt settingsSound roomOf slotsOf heldOf joinedOf sameOf begunOf storedOf standOf laid sum packetOf partOf packetsOf replyOf isForbidden lowestOf readOf heardFrom heardOf repeatOf
 jumpy-fails k =
     let n : _≡_ {A = ℕ} 0 1 = ap (λ (t : Told). t .number) (no-other-unit jumpy k .receive powerOn roomy-on 0x80 [] .told) in
     omega arith
 
 pub frozen-fails : Keeps frozen → ⊥
-unfolding shows freshOf readyOf startedOf clearedOf stepOf runStep settle answerOf receiveOf joinOf releaseOf staysOf soundOf runSound collectionSound judgeOf commandAt settingsSound roomOf slotsOf heldOf joinedOf sameOf begunOf storedOf standOf laid sum packetOf partOf packetsOf replyOf readOf heardOf repeatOf
+unfolding shows freshOf readyOf startedOf clearedOf stepOf runStep settle answerOf receiveOf joinOf releaseOf staysOf soundOf runSound collectionSound judgeOf commandAt settingsSound roomOf slotsOf heldOf joinedOf sameOf begunOf storedOf standOf laid sum packetOf partOf packetsOf replyOf isForbidden lowestOf readOf heardFrom heardOf repeatOf
 frozen-fails k =
     let n : _≡_ {A = ℕ} 5 0x41 = ap (λ (s : Sign). s .last) (no-other-unit frozen k .clear (shows w5) roomy-w5 .next) in
     omega arith
@@ -229,7 +277,7 @@ unfolding shows again startedOf roomOf laid
 roomy-again = record { lens = refl; room = refl }
 
 pub sulking-fails : Keeps sulking → ⊥
-unfolding shows again freshOf readyOf startedOf clearedOf stepOf runStep settle answerOf receiveOf joinOf releaseOf staysOf soundOf runSound collectionSound judgeOf commandAt settingsSound roomOf slotsOf heldOf joinedOf sameOf begunOf storedOf standOf laid sum packetOf partOf packetsOf replyOf readOf heardOf repeatOf
+unfolding shows again freshOf readyOf startedOf clearedOf stepOf runStep settle answerOf receiveOf joinOf releaseOf staysOf soundOf runSound collectionSound judgeOf commandAt settingsSound roomOf slotsOf heldOf joinedOf sameOf begunOf storedOf standOf laid sum packetOf partOf packetsOf replyOf isForbidden lowestOf readOf heardFrom heardOf repeatOf
 sulking-fails k =
     let n : _≡_ {A = ℕ} 16 0 = ap (λ (t : Told). t .number) (no-other-unit sulking k .step (shows again) roomy-again .told) in
     omega arith
@@ -250,13 +298,13 @@ unfolding shows switching startedOf roomOf laid
 roomy-switching = record { lens = refl; room = refl }
 
 pub dated-fails : Keeps dated → ⊥
-unfolding compact shows freshOf readyOf startedOf clearedOf stepOf runStep settle answerOf receiveOf joinOf releaseOf staysOf soundOf runSound collectionSound judgeOf commandAt settingsSound roomOf slotsOf heldOf joinedOf sameOf begunOf storedOf standOf laid sum packetOf partOf packetsOf replyOf readOf heardOf repeatOf
+unfolding compact shows freshOf readyOf startedOf clearedOf stepOf runStep settle answerOf receiveOf joinOf releaseOf staysOf soundOf runSound collectionSound judgeOf commandAt settingsSound roomOf slotsOf heldOf joinedOf sameOf begunOf storedOf standOf laid sum packetOf partOf packetsOf replyOf isForbidden lowestOf readOf heardFrom heardOf repeatOf
 dated-fails k =
     let n : _≡_ {A = ℕ} 45 46 = ap (valueAt 4) (no-other-unit dated k .step (shows compact) roomy-compact .told) in
     omega arith
 
 pub trailing-fails : Keeps trailing → ⊥
-unfolding switching shows freshOf readyOf startedOf clearedOf stepOf runStep settle answerOf receiveOf joinOf releaseOf staysOf soundOf runSound collectionSound judgeOf commandAt settingsSound roomOf slotsOf heldOf joinedOf sameOf begunOf storedOf standOf laid sum packetOf partOf packetsOf replyOf readOf heardOf repeatOf
+unfolding switching shows freshOf readyOf startedOf clearedOf stepOf runStep settle answerOf receiveOf joinOf releaseOf staysOf soundOf runSound collectionSound judgeOf commandAt settingsSound roomOf slotsOf heldOf joinedOf sameOf begunOf storedOf standOf laid sum packetOf partOf packetsOf replyOf isForbidden lowestOf readOf heardFrom heardOf repeatOf
 trailing-fails k =
     let n : _≡_ {A = ℕ} 46 45 = ap (valueAt 4) (no-other-unit trailing k .step (shows switching) roomy-switching .told) in
     omega arith
@@ -266,23 +314,23 @@ ended : Sign
 ended = ours .step (shows w5) .next
 
 roomy-ended : Roomy ended
-unfolding ended shows freshOf readyOf startedOf clearedOf stepOf runStep settle answerOf receiveOf joinOf releaseOf staysOf soundOf runSound collectionSound judgeOf commandAt settingsSound roomOf slotsOf heldOf joinedOf sameOf begunOf storedOf standOf laid sum packetOf partOf packetsOf replyOf readOf heardOf repeatOf
+unfolding ended shows freshOf readyOf startedOf clearedOf stepOf runStep settle answerOf receiveOf joinOf releaseOf staysOf soundOf runSound collectionSound judgeOf commandAt settingsSound roomOf slotsOf heldOf joinedOf sameOf begunOf storedOf standOf laid sum packetOf partOf packetsOf replyOf isForbidden lowestOf readOf heardFrom heardOf repeatOf
 roomy-ended = record { lens = refl; room = refl }
 
 pub drowsy-fails : Keeps drowsy → ⊥
-unfolding ended shows freshOf readyOf startedOf clearedOf stepOf runStep settle answerOf receiveOf joinOf releaseOf staysOf soundOf runSound collectionSound judgeOf commandAt settingsSound roomOf slotsOf heldOf joinedOf sameOf begunOf storedOf standOf laid sum packetOf partOf packetsOf replyOf readOf heardOf repeatOf
+unfolding ended shows freshOf readyOf startedOf clearedOf stepOf runStep settle answerOf receiveOf joinOf releaseOf staysOf soundOf runSound collectionSound judgeOf commandAt settingsSound roomOf slotsOf heldOf joinedOf sameOf begunOf storedOf standOf laid sum packetOf partOf packetsOf replyOf isForbidden lowestOf readOf heardFrom heardOf repeatOf
 drowsy-fails k =
     let n : _≡_ {A = ℕ} 0x41 5 = ap (λ (s : Sign). s .last) (no-other-unit drowsy k .step ended roomy-ended .next) in
     omega arith
 
 pub rosy-fails : Keeps rosy → ⊥
-unfolding shows room20 freshOf readyOf startedOf clearedOf stepOf runStep settle answerOf receiveOf joinOf releaseOf staysOf soundOf runSound collectionSound judgeOf commandAt settingsSound roomOf slotsOf heldOf joinedOf sameOf begunOf storedOf standOf laid sum packetOf partOf packetsOf replyOf readOf heardOf repeatOf
+unfolding shows room20 freshOf readyOf startedOf clearedOf stepOf runStep settle answerOf receiveOf joinOf releaseOf staysOf soundOf runSound collectionSound judgeOf commandAt settingsSound roomOf slotsOf heldOf joinedOf sameOf begunOf storedOf standOf laid sum packetOf partOf packetsOf replyOf isForbidden lowestOf readOf heardFrom heardOf repeatOf
 rosy-fails k =
     let n : _≡_ {A = ℕ} 0x52 0x42 = ap (λ (w : Wrote). getD (w .buffer) 4 0) (no-other-unit rosy k .reply (shows w5) roomy-w5 0x80 false room20) in
     omega arith
 
 pub mute-fails : Keeps mute → ⊥
-unfolding shows room20 freshOf readyOf startedOf clearedOf stepOf runStep settle answerOf receiveOf joinOf releaseOf staysOf soundOf runSound collectionSound judgeOf commandAt settingsSound roomOf slotsOf heldOf joinedOf sameOf begunOf storedOf standOf laid sum packetOf partOf packetsOf replyOf readOf heardOf repeatOf
+unfolding shows room20 freshOf readyOf startedOf clearedOf stepOf runStep settle answerOf receiveOf joinOf releaseOf staysOf soundOf runSound collectionSound judgeOf commandAt settingsSound roomOf slotsOf heldOf joinedOf sameOf begunOf storedOf standOf laid sum packetOf partOf packetsOf replyOf isForbidden lowestOf readOf heardFrom heardOf repeatOf
 mute-fails k =
     let n : _≡_ {A = ℕ} 0 3 = ap (λ (w : Wrote). valueAt 0 (w .told)) (no-other-unit mute k .copy (shows w5) roomy-w5 room20) in
     omega arith
@@ -294,7 +342,7 @@ parrot-fails k =
     omega arith
 
 pub encore-fails : Keeps encore → ⊥
-unfolding freshOf readyOf startedOf clearedOf stepOf runStep settle answerOf receiveOf joinOf releaseOf staysOf soundOf runSound collectionSound judgeOf commandAt settingsSound roomOf slotsOf heldOf joinedOf sameOf begunOf storedOf standOf laid sum packetOf partOf packetsOf replyOf readOf heardOf repeatOf
+unfolding freshOf readyOf startedOf clearedOf stepOf runStep settle answerOf receiveOf joinOf releaseOf staysOf soundOf runSound collectionSound judgeOf commandAt settingsSound roomOf slotsOf heldOf joinedOf sameOf begunOf storedOf standOf laid sum packetOf partOf packetsOf replyOf isForbidden lowestOf readOf heardFrom heardOf repeatOf
 encore-fails k =
     let n : _≡_ {A = ℕ} 13 0 = ap (valueAt 0) (no-other-unit encore k .step (record { sign = powerOn; line = w5 }) roomy-on .told) in
     omega arith
@@ -304,11 +352,11 @@ passed : Sign
 passed = ours .step (ours .step (ours .step (shows twice) .next) .next) .next
 
 roomy-passed : Roomy passed
-unfolding passed shows twice freshOf readyOf startedOf clearedOf stepOf runStep settle answerOf receiveOf joinOf releaseOf staysOf soundOf runSound collectionSound judgeOf commandAt settingsSound roomOf slotsOf heldOf joinedOf sameOf begunOf storedOf standOf laid sum packetOf partOf packetsOf replyOf readOf heardOf repeatOf
+unfolding passed shows twice freshOf readyOf startedOf clearedOf stepOf runStep settle answerOf receiveOf joinOf releaseOf staysOf soundOf runSound collectionSound judgeOf commandAt settingsSound roomOf slotsOf heldOf joinedOf sameOf begunOf storedOf standOf laid sum packetOf partOf packetsOf replyOf isForbidden lowestOf readOf heardFrom heardOf repeatOf
 roomy-passed = record { lens = refl; room = refl }
 
 pub counting-fails : Keeps counting → ⊥
-unfolding passed shows twice freshOf readyOf startedOf clearedOf stepOf runStep settle answerOf receiveOf joinOf releaseOf staysOf soundOf runSound collectionSound judgeOf commandAt settingsSound roomOf slotsOf heldOf joinedOf sameOf begunOf storedOf standOf laid sum packetOf partOf packetsOf replyOf readOf heardOf repeatOf
+unfolding passed shows twice freshOf readyOf startedOf clearedOf stepOf runStep settle answerOf receiveOf joinOf releaseOf staysOf soundOf runSound collectionSound judgeOf commandAt settingsSound roomOf slotsOf heldOf joinedOf sameOf begunOf storedOf standOf laid sum packetOf partOf packetsOf replyOf isForbidden lowestOf readOf heardFrom heardOf repeatOf
 counting-fails k =
     let n : _≡_ {A = ℕ} 0 13 = ap (valueAt 0) (no-other-unit counting k .step (record { sign = passed; script = [] }) roomy-passed .told) in
     omega arith

@@ -2,16 +2,19 @@
 use Prim.Native.Nat.{ℕ, zero, suc, _+_, _-_, _/_, _%_, _<_}
 use mathlib.Core.Bool.{Bool, true, false, not}
 use mathlib.Core.List.{List, [], _∷_}
-use mathlib.Core.Path.{_≡_, refl, ap, _∙_}
+use mathlib.Core.Path.{_≡_, refl, sym, ap, _∙_}
 use native.Mathlib.Omega.{arith}
 use lib.Dec.{eqb, leb}
 use borrow.Author.Tests.{eqb-false}
 use lib.ListN.{length, getD, take, drop}
 use Rattle.basis.specs.Choice.{when, within, _and_, _or_}
 use Rattle.basis.specs.Rows.{firstOf}
-use Rattle.reply.specs.Reply.{heardOf, isReply, isTold}
+use Rattle.packet.specs.Mid.{isForbidden, Allowed}
+use Rattle.reply.specs.Reply.{heardOf, heardFrom, isReply, isTold}
 use Rattle.reply.specs.declared.Status.the-variants.{Heard, Refused as Unheard}
-use Rattle.reader.specs.Read.{isNormal, rowsOf, refusedOr, named, readOf}
+use Rattle.reply.proofs.Replies.{heard-stops, heard-passes}
+use Rattle.reader.specs.Read.{isNormal, rowsOf, refusedOr, named, lowestOf, readOf}
+use Rattle.reader.proofs.Guard.{read-stops, read-passes}
 use Rattle.reader.specs.declared.read.Reading.{Reading}
 use Rattle.reader.specs.declared.read.Reading.the-variants.{Query as QueryRead, Reset as ResetRead, Normal, Refused as Unread}
 use Rattle.params.specs.Bytes.{paramOf, firstOf as firstByte}
@@ -69,26 +72,35 @@ named-yes id fifth len n e = go (isNormal id) (eqb id 0x40) e
     go false false w = let z : _≡_ {A = ℕ} 0 1 = cc in omega arith
 
 pub read-no : (mid : ℕ) (b : List ℕ) (n : ℕ) → readOf mid b ≡ Unread n → 0 < n
-unfolding readOf
-read-no mid b n e = go (firstOf (rowsOf mid b)) e
+unfolding lowestOf
+read-no mid b n e = which (isForbidden mid) refl
   where
     go : (k : ℕ) → refusedOr k (named (getD b 3 0) (getD b 4 0) (length b)) ≡ Unread n → 0 < n
     go zero w = absurd (named-yes (getD b 3 0) (getD b 4 0) (length b) n w)
     go (suc k) w = let z : suc k ≡ n = cc in omega arith
 
--- a reply is refused with 35 alone
+    which : (t : Bool) → isForbidden mid ≡ t → 0 < n
+    which true q = let h : Unread 19 ≡ Unread n = sym (read-stops mid b q) ∙ e in let z : 19 ≡ n = cc in omega arith
+    which false q = go (firstOf (rowsOf mid b)) (sym (read-passes mid b q) ∙ e)
+
+-- a reply is refused with 35 alone, where its MID is not forbidden
 told-35 : (t u : Bool) (l n : ℕ) (b c : Bool) → when t (when u (Heard l b c) (Unheard 35)) (Unheard 35) ≡ Unheard n → 35 ≡ n
 told-35 true true l n b c e = let z : _≡_ {A = ℕ} 0 1 = cc in absurd (omega arith)
 told-35 true false l n b c e = cc
 told-35 false u l n b c e = cc
 
-pub unheard-35 : (mid : ℕ) (b : List ℕ) (n : ℕ) → heardOf mid b ≡ Unheard n → 35 ≡ n
-unfolding heardOf
-unheard-35 mid b n e =
-    told-35 (isReply mid b) (isTold (getD b 3 0) (getD b 4 0) (getD b 5 0)) (getD b 3 0) n (eqb (getD b 4 0) 0x42) (eqb (getD b 5 0) 0x53) e
+pub unheard-35 : (mid : ℕ) (b : List ℕ) (n : ℕ) → Allowed mid → heardOf mid b ≡ Unheard n → 35 ≡ n
+unfolding heardFrom
+unheard-35 mid b n allowed e =
+    told-35 (isReply mid b) (isTold (getD b 3 0) (getD b 4 0) (getD b 5 0)) (getD b 3 0) n (eqb (getD b 4 0) 0x42) (eqb (getD b 5 0) 0x53)
+    (sym (heard-passes mid b allowed) ∙ e)
 
 pub heard-no : (mid : ℕ) (b : List ℕ) (n : ℕ) → heardOf mid b ≡ Unheard n → 0 < n
-heard-no mid b n e = let z = unheard-35 mid b n e in omega arith
+heard-no mid b n e = go (isForbidden mid) refl
+  where
+    go : (t : Bool) → isForbidden mid ≡ t → 0 < n
+    go true q = let h : Unheard 19 ≡ Unheard n = sym (heard-stops mid b q) ∙ e in let z : 19 ≡ n = cc in omega arith
+    go false q = let z = unheard-35 mid b n q e in omega arith
 
 above : (k : ℕ) → (k ≡ 0 → ⊥) → 0 < k
 above zero h = absurd (h refl)

@@ -7,6 +7,7 @@ use Rattle.basis.specs.Bytes.{Bytes}
 use Rattle.service.specs.Good.{Roomy}
 use Rattle.promises.specs.Unit.{Heard, Next, Calls, ours}
 use Rattle.promises.specs.Safe.{NoTrip}
+use Rattle.promises.specs.Guard.{Guards}
 use Rattle.promises.specs.Wire.{WireHolds}
 use Rattle.promises.specs.Record.{Obeys}
 use Rattle.promises.specs.Delivery.{Delivers}
@@ -17,6 +18,7 @@ use Rattle.sign.specs.declared.Sign.{Sign}
 pub record Keeps {R : Type 0} (u : Calls R) : Type 0 where
   pub dispatch : DispatchToReady u
   pub safe : NoTrip u
+  pub guards : Guards u
   pub wire : WireHolds u
   pub obeys : Obeys u
   pub delivers : Delivers u

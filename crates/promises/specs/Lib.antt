@@ -1,6 +1,7 @@
 pub mod Bench
 pub mod Delivery
 pub mod Dispatch
+pub mod Guard
 pub mod Keeps
 pub mod Line
 pub mod Record

@@ -6,6 +6,7 @@ use mathlib.Core.List.{List, [], _∷_}
 use mathlib.Core.Path.{_≡_}
 use lib.ListN.{length, getD, take, drop}
 use Rattle.basis.specs.Told.{Told, no}
+use Rattle.packet.specs.Mid.{midRow}
 use Rattle.packet.specs.Write.{shortBy}
 use Rattle.reader.specs.Read.{readOf}
 use Rattle.reader.specs.declared.read.Reading.the-variants.{Query as QueryRead, Reset as ResetRead, Normal, Refused as Unread}
@@ -86,7 +87,7 @@ pub record Obeys {R : Type 0} (u : Calls R) : Type 0 where
   pub clears : (r : R) → Good (u .holds r) → Clears u r
   -- the reply tells last ID and state as the record holds them, and AUX as the caller says; the copy is the running body
   pub replies : (r : R) → Good (u .holds r) → (mid : ℕ) (sink : Bool) (out : List ℕ)
-      → Lays (shortBy (saysOf (u .holds r) mid sink) out ∷ []) (saysOf (u .holds r) mid sink) out (u .reply r mid sink out)
+      → Lays (midRow mid ∷ shortBy (saysOf (u .holds r) mid sink) out ∷ []) (saysOf (u .holds r) mid sink) out (u .reply r mid sink out)
   pub copies : (r : R) → Good (u .holds r) → (out : List ℕ)
       → Lays (shortBy (runningBody (u .holds r)) out ∷ []) (runningBody (u .holds r)) out (u .copy r out)
   -- the repeater hands back that very stretch of the body, or the whole standing line

@@ -7,6 +7,7 @@ use mathlib.Core.List.{List, [], _∷_}
 use lib.ListN.{getD, take}
 use Rattle.basis.specs.Rows.{Row, firstOf}
 use Rattle.basis.specs.Told.{Told}
+use Rattle.packet.specs.Mid.{midRow}
 use Rattle.packet.specs.Wire.{queryOf, resetOf, packetAt, transmissionOf, replyOf}
 use Rattle.packet.specs.Write.{shortBy, packetRows, transmissionRows, answerOf, bufferOf, toldOf as writtenTold}
 use Rattle.reader.specs.Read.{readOf, toldOf as readTold}
@@ -18,7 +19,7 @@ use Rattle.hear.specs.Hear.{toldOf as outcomeTold}
 use Rattle.sign.specs.Receive.{receiveOf}
 use Rattle.sign.specs.Reset.{powerOn, clearedOf}
 use Rattle.sign.specs.Step.{stepOf}
-use Rattle.sign.specs.Tell.{saysOf, runningBody, toldRows}
+use Rattle.sign.specs.Tell.{saysOf, runningBody, saysRows, copyRows}
 use Rattle.sign.specs.declared.Sign.{Sign}
 use Rattle.sign.specs.declared.Received.{Received}
 use Rattle.sign.specs.declared.Stepped.{Stepped}
@@ -91,18 +92,18 @@ ours =
       holds = λ s. s;
       read = λ mid b. readTold (readOf mid b);
       hear = λ mid b. statusTold (heardOf mid b);
-      query = λ mid out. leftBy (shortBy (queryOf mid) out ∷ []) (queryOf mid) out;
-      reset = λ mid out. leftBy (shortBy (resetOf mid) out ∷ []) (resetOf mid) out;
-      write = λ mid id body position out. leftBy (packetRows mid id body position out) (packetAt mid id body position) out;
-      transmit = λ mid id body out. leftBy (transmissionRows mid id body out) (transmissionOf mid id body) out;
-      answer = λ mid last busy sink out. leftBy (replyRows mid last busy sink out) (replyOf mid last busy sink) out;
+      query = λ mid out. leftBy (midRow mid ∷ shortBy (queryOf mid) out ∷ []) (queryOf mid) out;
+      reset = λ mid out. leftBy (midRow mid ∷ shortBy (resetOf mid) out ∷ []) (resetOf mid) out;
+      write = λ mid id body position out. leftBy (midRow mid ∷ packetRows mid id body position out) (packetAt mid id body position) out;
+      transmit = λ mid id body out. leftBy (midRow mid ∷ transmissionRows mid id body out) (transmissionOf mid id body) out;
+      answer = λ mid last busy sink out. leftBy (midRow mid ∷ replyRows mid last busy sink out) (replyOf mid last busy sink) out;
       judge = λ b. verdictTold (judgeOf b);
       forecast = λ b pace each. forecastTold (forecastOf b pace each);
       power = powerOn;
       receive = λ s mid b. heardIn (receiveOf s mid b);
       step = λ s. steppedIn (stepOf s);
       clear = λ s. clearedIn (clearedOf s);
-      reply = λ s mid sink out. leftBy (toldRows s (saysOf s mid sink) out) (saysOf s mid sink) out;
-      copy = λ s out. leftBy (toldRows s (runningBody s) out) (runningBody s) out;
+      reply = λ s mid sink out. leftBy (saysRows s mid sink out) (saysOf s mid sink) out;
+      copy = λ s out. leftBy (copyRows s out) (runningBody s) out;
       repeat = repeatOf;
     }

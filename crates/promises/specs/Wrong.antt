@@ -6,7 +6,9 @@ use lib.Dec.{eqb, ltb}
 use lib.ListN.{length, getD, take, drop, replicate}
 use Rattle.basis.specs.Choice.{when, _and_, _or_}
 use Rattle.basis.specs.Told.{Told, yes, no}
+use Rattle.packet.specs.Mid.{isForbidden, midRow}
 use Rattle.packet.specs.Wire.{replyOf}
+use Rattle.packet.specs.Write.{shortBy}
 use Rattle.reader.specs.Read.{readOf, toldOf as readTold}
 use Rattle.reader.specs.declared.read.Reading.{Reading}
 use Rattle.reader.specs.declared.read.Reading.the-variants.{Query, Reset, Normal, Refused}
@@ -40,6 +42,7 @@ use Rattle.sign.specs.Tell.{runningBody, toldRows}
 use Rattle.sign.specs.declared.Sign.{Sign}
 use Rattle.promises.specs.Unit.{Wrote, Next, Heard, Calls, ours, leftBy}
 use Rattle.promises.specs.Record.{stays}
+use Rattle.promises.specs.Guard.{unguarded}
 use Rattle.promises.specs.Line.{toldOfAll}
 
 -- ours but for these calls
@@ -144,6 +147,29 @@ eager = reading (λ mid b. readTold (eagerly b (readOf mid b)))
 -- a reader that takes fewer than 7 bytes for a reset
 abbrev pub noisy : Calls Sign
 noisy = reading (λ mid b. when (ltb (length b) 7) (readTold Reset) (ours .read mid b))
+
+-- a reader that looks for the forbidden MIDs in the packet, and not at the sign's own
+abbrev pub misled : Calls Sign
+misled = reading (λ mid b. when (isForbidden (getD b 0 0)) (no 19) (unguarded .read mid b))
+
+-- and a sign that does so
+abbrev pub misset : Calls Sign
+misset = receiving (λ s mid b. when (isForbidden (getD b 0 0)) (stays s (no 19)) (unguarded .receive s mid b))
+
+-- a sign that refuses 7Dh too
+abbrev pub wary : Calls Sign
+wary = receiving (λ s mid b. when (eqb mid 0x7D) (stays s (no 19)) (ours .receive s mid b))
+
+-- a sign that looks at its MID before its record
+abbrev pub hurried : Calls Sign
+hurried = receiving (λ s mid b. when (isForbidden mid) (stays s (no 19)) (ours .receive s mid b))
+
+-- a writer that writes for a forbidden MID, and then refuses
+abbrev pub sorry : Calls Sign
+sorry =
+    writing
+    (λ mid id body position out.
+    when (isForbidden mid) (record { told = no 19; buffer = unguarded .write mid id body position out .buffer }) (ours .write mid id body position out))
 
 -- a reader of replies that takes one with last ID 40h, which no sign has, for a reply
 abbrev pub rumour : List ℕ
@@ -297,11 +323,11 @@ drowsy =
 
 -- a sign that always says Ready
 abbrev pub rosy : Calls Sign
-rosy = replying (λ s mid sink out. leftBy (toldRows s (replyOf mid (s .last) false sink) out) (replyOf mid (s .last) false sink) out)
+rosy = replying (λ s mid sink out. leftBy (toldRows s (midRow mid ∷ shortBy (replyOf mid (s .last) false sink) out ∷ [])) (replyOf mid (s .last) false sink) out)
 
 -- a sign that copies nothing out
 abbrev pub mute : Calls Sign
-mute = copying (λ s out. leftBy (toldRows s [] out) [] out)
+mute = copying (λ s out. leftBy (toldRows s []) [] out)
 
 -- a repeater that knows the standing line alone
 abbrev pub parrot : Calls Sign

@@ -1,4 +1,5 @@
 pub mod Frame
+pub mod Guard
 pub mod ReadBack
 pub mod Refusals
 pub mod Unique

@@ -16,9 +16,10 @@ use Rattle.basis.proofs.Choices.{when-false}
 use Rattle.basis.proofs.Rows.{all-passed}
 use Rattle.packet.proofs.Seals.{only-seal}
 use Rattle.packet.specs.Wire.{sealed, fifthOf, frontOf, packetOf, queryOf, resetOf}
-use Rattle.reader.specs.Read.{readOf, rowsOf, fieldRows, refusedOr, named, wrongPlace}
+use Rattle.reader.specs.Read.{lowestOf, readOf, rowsOf, fieldRows, refusedOr, named, wrongPlace}
 use Rattle.reader.specs.declared.read.Reading.{Reading}
 use Rattle.reader.specs.declared.read.Reading.the-variants.{Query, Reset, Normal, Refused}
+use Rattle.reader.proofs.Guard.{read-past}
 
 -- a frame that numbers 1 to 8 let pass
 pub record Framed (mid : ℕ) (b : List ℕ) : Type 0 where
@@ -84,11 +85,12 @@ answered : (n : ℕ) (a r : Reading) → refusedOr n a ≡ r → ((k : ℕ) → 
 answered zero a r e answers = (refl, e)
 answered (suc n) a r e answers = absurd (answers (suc n) (sym e))
 
--- so its packet passed the whole table
+-- so its MID passed the guard, and its packet the whole table
 pub passed : (mid : ℕ) (b : List ℕ) (r : Reading) → readOf mid b ≡ r → ((k : ℕ) → r ≡ Refused k → ⊥)
     → (firstOf (rowsOf mid b) ≡ 0) × (named (getD b 3 0) (getD b 4 0) (length b) ≡ r)
-unfolding readOf
-passed mid b r e answers = answered (firstOf (rowsOf mid b)) (named (getD b 3 0) (getD b 4 0) (length b)) r e answers
+unfolding lowestOf
+passed mid b r e answers =
+    answered (firstOf (rowsOf mid b)) (named (getD b 3 0) (getD b 4 0) (length b)) r (read-past mid b r e (answers 19) .1) answers
 
 -- the fields that were named are those of the bytes
 fields-are : (t u : Bool) (id fifth len i n p l : ℕ)

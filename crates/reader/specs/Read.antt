@@ -1,4 +1,5 @@
--- Reading a packet (W9): the lowest of N1 to N11 that applies, and the fields of what none of them refuses (W3 to W6).
+-- Reading a packet (W9): 19 for a forbidden MID (N19), the lowest of N1 to N11 that applies, and the fields of what none
+-- of them refuses (W3 to W6).
 use Prim.Native.Nat.{ℕ, zero, suc, _+_, _-_, _/_, _%_, _≤_}
 use mathlib.Core.List.{List, [], _∷_}
 use mathlib.Core.Bool.{Bool, true, not}
@@ -9,6 +10,7 @@ use Rattle.basis.specs.Bytes.{sum}
 use Rattle.basis.specs.Choice.{when, _and_, _or_}
 use Rattle.basis.specs.Told.{Told, yes, no}
 use Rattle.basis.specs.Rows.{Row, _if_, firstOf, applies}
+use Rattle.packet.specs.Mid.{guardedBy}
 use Rattle.reader.specs.declared.read.Reading.{Reading}
 use Rattle.reader.specs.declared.read.Reading.the-variants.{Query, Reset, Normal, Refused}
 
@@ -55,9 +57,13 @@ named id fifth len =
 abbrev pub fieldsOf : ℕ → ℕ → ℕ → Reading
 fieldsOf id fifth len = refusedOr (firstOf (fieldRows id fifth len)) (named id fifth len)
 
--- the lowest number that applies, or the packet's kind and fields
+-- the lowest number that applies, or the packet's kind and fields: what a sign reads whose MID is not judged
+unfoldable pub lowestOf : ℕ → List ℕ → Reading
+lowestOf mid b = refusedOr (firstOf (rowsOf mid b)) (named (getD b 3 0) (getD b 4 0) (length b))
+
+-- what a sign reads: 19 for a forbidden MID, a guard that is no row of the table
 unfoldable pub readOf : ℕ → List ℕ → Reading
-readOf mid b = refusedOr (firstOf (rowsOf mid b)) (named (getD b 3 0) (getD b 4 0) (length b))
+readOf mid b = guardedBy Refused mid (lowestOf mid b)
 
 -- a number that applies to these bytes, and no lower one does
 pub record Lowest (mid : ℕ) (b : List ℕ) (k : ℕ) : Type 0 where

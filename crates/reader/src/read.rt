@@ -1,8 +1,9 @@
-// Reads a packet's bytes: rule W9, and N1 to N11.
+// Reads a packet's bytes: rule W9, with N19 and N1 to N11.
+use packet::forbidden;
 use packet::sum_of;
 ghost use mathlib.Core.Path.{_≡_};
 ghost use Prim.Native.Nat.{_<_, _≤_};
-ghost use Rattle.reader.specs.Read.{readOf, fieldsOf};
+ghost use Rattle.reader.specs.Read.{fieldsOf, lowestOf, readOf};
 
 // What a sign reads off the bytes that came.
 pub enum Reading {
@@ -77,9 +78,9 @@ fn read_fields(id: u8, fifth: u8, len: usize) -> Reading
     }
 }
 
-// The packet's kind and fields, or the lowest number that applies.
-pub fn read_packet(mid: u8, bytes: &[u8]) -> Reading
-    ensures { λ r. ⌜ r ≡ readOf mid (now (bytes .entry)) ⌝ }
+// The packet's kind and fields, or the lowest number that applies, for a MID that is not judged here.
+fn lowest(mid: u8, bytes: &[u8]) -> Reading
+    ensures { λ r. ⌜ r ≡ lowestOf mid (now (bytes .entry)) ⌝ }
 {
     let n = bytes.len();
     if n < 7 {
@@ -107,4 +108,14 @@ pub fn read_packet(mid: u8, bytes: &[u8]) -> Reading
         return Reading::Refused(8);
     }
     read_fields(bytes[3], bytes[4], n)
+}
+
+// What bytes off the line are to the sign of this MID.
+pub fn read_packet(mid: u8, bytes: &[u8]) -> Reading
+    ensures { λ r. ⌜ r ≡ readOf mid (now (bytes .entry)) ⌝ }
+{
+    if forbidden(mid) {
+        return Reading::Refused(19);
+    }
+    lowest(mid, bytes)
 }

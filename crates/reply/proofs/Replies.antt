@@ -13,16 +13,18 @@ use Rattle.basis.specs.Choice.{when, _and_, _or_}
 use Rattle.basis.proofs.Bytes.{five-front}
 use Rattle.basis.proofs.Choices.{when-true, and-true, and-parts}
 use Rattle.basis.proofs.Tests.{tests}
+use Rattle.packet.specs.Mid.{isForbidden, Allowed}
 use Rattle.packet.specs.Wire.{sealed, turned, stateOf, auxOf, replyOf}
-use Rattle.reply.specs.Reply.{isLast, isReply, statusOf, heardOf}
+use Rattle.reply.specs.Reply.{isLast, isReply, statusOf, heardFrom, heardOf}
 use Rattle.reply.specs.declared.Status.{Status}
 use Rattle.reply.specs.declared.Status.the-variants.{Heard, Refused}
+use Rattle.packet.proofs.Guards.{guard-stops, guard-passes, guard-past}
 use Rattle.packet.proofs.Seals.{balanced, only-seal}
 
 -- a reply's frame that is right is read by the three bytes that tell
 pub reply-right : (mid : ℕ) (b : List ℕ) → length b ≡ 8 → sum b % 256 ≡ 0 → getD b 0 0 ≡ turned mid → getD b 1 0 ≡ 0x7F
-    → getD b 2 0 ≡ 8 → getD b 6 0 ≡ 0 → heardOf mid b ≡ statusOf (getD b 3 0) (getD b 4 0) (getD b 5 0)
-unfolding heardOf
+    → getD b 2 0 ≡ 8 → getD b 6 0 ≡ 0 → heardFrom mid b ≡ statusOf (getD b 3 0) (getD b 4 0) (getD b 5 0)
+unfolding heardFrom
 reply-right mid b size balanced from-it marked count ended = search tests
 
 -- the bytes of a reply sum to 0
@@ -37,12 +39,29 @@ letters-tell last true false known = when-true (isLast last and true) _ _ (and-t
 letters-tell last false true known = when-true (isLast last and true) _ _ (and-true _ _ known refl)
 letters-tell last false false known = when-true (isLast last and true) _ _ (and-true _ _ known refl)
 
+-- the guard: a forbidden MID is 19 whatever the bytes are, and of any other the bytes decide
+pub heard-stops : (mid : ℕ) (b : List ℕ) → isForbidden mid ≡ true → heardOf mid b ≡ Refused 19
+unfolding heardOf
+heard-stops mid b e = guard-stops Refused mid (heardFrom mid b) e
+
+pub heard-passes : (mid : ℕ) (b : List ℕ) → Allowed mid → heardOf mid b ≡ heardFrom mid b
+unfolding heardOf
+heard-passes mid b e = guard-passes Refused mid (heardFrom mid b) e
+
+-- what is heard passed it
+pub heard-past : (mid : ℕ) (b : List ℕ) (last : ℕ) (busy sink : Bool) → heardOf mid b ≡ Heard last busy sink
+    → Allowed mid × (heardFrom mid b ≡ Heard last busy sink)
+unfolding heardOf
+heard-past mid b last busy sink e =
+    guard-past Refused mid (heardFrom mid b) (Heard last busy sink) e (λ q. let z : _≡_ {A = ℕ} 0 1 = cc in omega arith)
+
 -- what was written reads back as its fields
-pub reply-reads : (mid last : ℕ) (busy sink : Bool) → isLast last ≡ true
+pub reply-reads : (mid last : ℕ) (busy sink : Bool) → Allowed mid → isLast last ≡ true
     → heardOf mid (replyOf mid last busy sink) ≡ Heard last busy sink
 unfolding replyOf
-reply-reads mid last busy sink known =
-    reply-right mid (replyOf mid last busy sink) refl (reply-balanced mid last busy sink) refl refl refl refl
+reply-reads mid last busy sink allowed known =
+    heard-passes mid (replyOf mid last busy sink) allowed
+    ∙ reply-right mid (replyOf mid last busy sink) refl (reply-balanced mid last busy sink) refl refl refl refl
     ∙ letters-tell last busy sink known
 
 -- a byte that is one of two letters is the letter that the test between them names
@@ -65,10 +84,10 @@ framed-reply false s l busy sink e = let z : _≡_ {A = ℕ} 0 1 = cc in absurd 
 -- an accepted reply is the reply of its fields
 pub reply-only : (mid : ℕ) (b : List ℕ) (last : ℕ) (busy sink : Bool) → Bytes b → heardOf mid b ≡ Heard last busy sink
     → b ≡ replyOf mid last busy sink
-unfolding heardOf replyOf
+unfolding heardFrom replyOf
 reply-only mid b last busy sink bytes e =
     let three = statusOf (getD b 3 0) (getD b 4 0) (getD b 5 0) in
-    let f = framed-reply (isReply mid b) three last busy sink e in
+    let f = framed-reply (isReply mid b) three last busy sink (heard-past mid b last busy sink e .1) in
     let p1 = and-parts (eqb (length b) 8) _ (f .0) in
     let p2 = and-parts (eqb (sum b % 256) 0) _ (p1 .1) in
     let p3 = and-parts (eqb (getD b 0 0) (turned mid)) _ (p2 .1) in

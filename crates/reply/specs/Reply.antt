@@ -1,4 +1,4 @@
--- The sign's reply to a query: what it may carry (W10), how it is read (W12, N35), and what refuses to write it (W18).
+-- The sign's reply to a query: what it may carry (W10), how it is read (W12, N19, N35), and what refuses to write it (W18).
 use Prim.Native.Nat.{ℕ, _%_}
 use mathlib.Core.List.{List, [], _∷_}
 use mathlib.Core.Bool.{Bool, not}
@@ -8,6 +8,7 @@ use Rattle.basis.specs.Bytes.{sum}
 use Rattle.basis.specs.Choice.{when, _and_, _or_}
 use Rattle.basis.specs.Rows.{Row, _if_}
 use Rattle.basis.specs.Told.{Told, yes, no, flagOf}
+use Rattle.packet.specs.Mid.{guardedBy}
 use Rattle.packet.specs.Wire.{turned, replyOf}
 use Rattle.packet.specs.Write.{shortBy}
 use Rattle.reply.specs.declared.Status.{Status}
@@ -34,11 +35,15 @@ isTold last state aux = isLast last and (eqb state 0x42 or eqb state 0x52) and (
 abbrev pub statusOf : ℕ → ℕ → ℕ → Status
 statusOf last state aux = when (isTold last state aux) (Heard last (eqb state 0x42) (eqb aux 0x53)) (Refused 35)
 
--- what the sender hears: 35 for all but a reply of the sign with this MID
-unfoldable pub heardOf : ℕ → List ℕ → Status
-heardOf mid b = when (isReply mid b) (statusOf (getD b 3 0) (getD b 4 0) (getD b 5 0)) (Refused 35)
+-- what the sender hears of a sign whose MID is not judged: 35 for all but a reply of the sign with this MID
+unfoldable pub heardFrom : ℕ → List ℕ → Status
+heardFrom mid b = when (isReply mid b) (statusOf (getD b 3 0) (getD b 4 0) (getD b 5 0)) (Refused 35)
 
--- the refusals of the reply's writer: an ID that no sign completes, or no room
+-- what the sender hears: 19 first, for a forbidden MID
+unfoldable pub heardOf : ℕ → List ℕ → Status
+heardOf mid b = guardedBy Refused mid (heardFrom mid b)
+
+-- the refusals of the reply's writer, where its MID is not judged: an ID that no sign completes, or no room
 abbrev pub replyRows : ℕ → ℕ → Bool → Bool → List ℕ → List Row
 replyRows mid last busy sink out = 32 if not (isLast last) ∷ shortBy (replyOf mid last busy sink) out ∷ []
 

@@ -13,6 +13,7 @@ use Rattle.basis.specs.Choice.{_or_}
 use Rattle.basis.proofs.Choices.{when-true, when-false}
 use Rattle.basis.proofs.Laid.{take-laid, length-laid, laid-over}
 use Rattle.packet.specs.Wire.{totalOf, partOf, fifthOf, packetAt}
+use Rattle.packet.specs.Mid.{Allowed}
 use Rattle.packet.proofs.Parts.{part-length}
 use Rattle.packet.proofs.Stands.{part-stands}
 use Rattle.reader.proofs.ReadBack.{body-reads}
@@ -140,14 +141,14 @@ abbrev stateAt : Sign → ℕ → List ℕ → ℕ → Sign
 stateAt s id body zero = s
 stateAt s id body (suc k) = withOf s (upTo id body (suc k))
 
-module _ (s : Sign) (good : Good s) (mid id : ℕ) (body : List ℕ) (known : id ≤ 0x3F) (some : 1 ≤ length body) (most : length body ≤ 84)
+module _ (s : Sign) (good : Good s) (mid id : ℕ) (body : List ℕ) (allowed : Allowed mid) (known : id ≤ 0x3F) (some : 1 ≤ length body) (most : length body ≤ 84)
     (waits : Awaits s id) where
   -- a packet of the body is joined as its part
   receives : (t : Sign) (k : ℕ) → soundOf t ≡ true → k < totalOf body
       → receiveOf t mid (packetAt mid id body k) ≡ joinOf t id (totalOf body) k (partOf body k)
   receives t k sound below =
       sound-receives t mid (packetAt mid id body k) sound
-      ∙ ap (heardOf t (packetAt mid id body k)) (body-reads mid id body k known some most below)
+      ∙ ap (heardOf t (packetAt mid id body k)) (body-reads mid id body k allowed known some most below)
       ∙ ap (joinOf t id (totalOf body) k) (part-stands mid id (fifthOf (totalOf body) k) (partOf body k))
 
   -- the first begins

@@ -9,7 +9,9 @@ use Rattle.basis.specs.Choice.{when, _and_}
 use Rattle.basis.proofs.Choices.{when-true, when-false}
 use Rattle.collect.specs.Slots.{Collection, heldOf, sameOf, begunOf, storedOf}
 use Rattle.collect.proofs.Sounds.{sound-slots}
+use Rattle.packet.specs.Mid.{isForbidden}
 use Rattle.reader.specs.Read.{readOf}
+use Rattle.reader.proofs.Guard.{read-stops}
 use Rattle.reader.specs.declared.read.Reading.{Reading}
 use Rattle.reader.specs.declared.read.Reading.the-variants.{Query as QueryRead, Reset as ResetRead, Normal, Refused as Unread}
 use Rattle.machine.specs.Sound.{soundOf as runSound}
@@ -41,6 +43,10 @@ sound-receives s mid b e = when-true (soundOf s) (heardOf s b (readOf mid b)) (s
 pub unsound-receives : (s : Sign) (mid : ℕ) (b : List ℕ) → soundOf s ≡ false → receiveOf s mid b ≡ staysOf s (Refused 16)
 unfolding receiveOf
 unsound-receives s mid b e = when-false (soundOf s) (heardOf s b (readOf mid b)) (staysOf s (Refused 16)) e
+
+-- and to a sign of a forbidden MID they are 19, whatever they are
+pub forbidden-receives : (s : Sign) (mid : ℕ) (b : List ℕ) → soundOf s ≡ true → isForbidden mid ≡ true → receiveOf s mid b ≡ staysOf s (Refused 19)
+forbidden-receives s mid b sound e = sound-receives s mid b sound ∙ ap (heardOf s b) (read-stops mid b e)
 
 -- the record after what was heard
 module _ (s : Sign) where

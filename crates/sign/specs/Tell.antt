@@ -1,9 +1,10 @@
--- What the sign tells: its reply to a query (J16, W10, W11), and its running body (S28). N16, then N34.
+-- What the sign tells: its reply to a query (J16, W10, W11), and its running body (S28). N16, for the reply N19, then N34.
 use Prim.Native.Nat.{ℕ}
 use mathlib.Core.List.{List, [], _∷_}
 use mathlib.Core.Bool.{Bool, not}
 use lib.Dec.{eqb}
 use Rattle.basis.specs.Rows.{Row, _if_}
+use Rattle.packet.specs.Mid.{midRow}
 use Rattle.packet.specs.Wire.{replyOf}
 use Rattle.packet.specs.Write.{shortBy}
 use Rattle.machine.specs.Sound.{bodyOf}
@@ -22,6 +23,13 @@ saysOf s mid aux = replyOf mid (s .last) (busyOf s) aux
 abbrev pub runningBody : Sign → List ℕ
 runningBody s = bodyOf (s .room) (s .run)
 
--- the refusals of a call that writes these bytes into the buffer
-abbrev pub toldRows : Sign → List ℕ → List ℕ → List Row
-toldRows s bytes out = 16 if not (soundOf s) ∷ shortBy bytes out ∷ []
+-- 16, before the other refusals of a call that tells
+abbrev pub toldRows : Sign → List Row → List Row
+toldRows s rows = 16 if not (soundOf s) ∷ rows
+
+-- the refusals of the reply, and of the copy
+abbrev pub saysRows : Sign → ℕ → Bool → List ℕ → List Row
+saysRows s mid aux out = toldRows s (midRow mid ∷ shortBy (saysOf s mid aux) out ∷ [])
+
+abbrev pub copyRows : Sign → List ℕ → List Row
+copyRows s out = toldRows s (shortBy (runningBody s) out ∷ [])

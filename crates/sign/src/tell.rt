@@ -1,14 +1,15 @@
-// What the sign tells: the reply to a query (J16), and the running body for the driver (S28). N16, then N34.
+// What the sign tells: the reply to a query (J16), and the running body for the driver (S28). N16, for the reply N19,
+// then N34.
 use crate::Sign;
 use packet::Written;
 use reply::write_reply;
 ghost use Rattle.packet.specs.Write.{Writes};
-ghost use Rattle.sign.specs.Tell.{saysOf, runningBody, toldRows};
+ghost use Rattle.sign.specs.Tell.{saysOf, runningBody, saysRows, copyRows};
 
 impl Sign {
     // Writes the reply to a query, with the AUX pin as the caller reads it.
     pub fn reply(self, mid: u8, aux: bool, out: &mut [u8]) -> Written
-        ensures { λ r. ⌜ Writes (toldRows self (saysOf self mid aux) (now (out .entry))) (saysOf self mid aux) (now (out .entry)) r (now (out .exit)) ⌝ }
+        ensures { λ r. ⌜ Writes (saysRows self mid aux (now (out .entry))) (saysOf self mid aux) (now (out .entry)) r (now (out .exit)) ⌝ }
     {
         if !self.sound() {
             return Written::Refused(16);
@@ -19,7 +20,7 @@ impl Sign {
 
     // Copies the running body to the buffer's front, and tells its length.
     pub fn copy_body(self, out: &mut [u8]) -> Written
-        ensures { λ r. ⌜ Writes (toldRows self (runningBody self) (now (out .entry))) (runningBody self) (now (out .entry)) r (now (out .exit)) ⌝ }
+        ensures { λ r. ⌜ Writes (copyRows self (now (out .entry))) (runningBody self) (now (out .entry)) r (now (out .exit)) ⌝ }
     {
         if !self.sound() {
             return Written::Refused(16);

@@ -9,10 +9,10 @@ sound-requires : tie.Need-sound-requires
 sound-requires c κs = search needs
 
 returns : tie.Need-returns
-returns c = sym (when-true _ 252 16 (sym (c .before .sound .ensures) ∙ c .if1 .taken))
+returns c = sym (when-true _ _ 16 (sym (c .before .sound .ensures) ∙ c .if1 .taken))
 
 returns-2 : tie.Need-returns-2
-returns-2 c = sym (when-false _ 252 16 (sym (c .before .sound .ensures) ∙ c .if1 .left))
+returns-2 c = sym (when-false _ _ 16 (sym (c .before .sound .ensures) ∙ c .if1 .left))
 
 pub short-spec : {M : Type 1} → statement M
 short-spec = tie.close (tie.spec sound-requires returns returns-2)

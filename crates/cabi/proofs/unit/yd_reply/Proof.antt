@@ -2,7 +2,7 @@
 use Rattle.cabi.proofs.Lays.{sign-tells}
 use lib.Dec.{eqb}
 use mathlib.Core.Bool.{not}
-use Rattle.sign.specs.Tell.{saysOf}
+use Rattle.sign.specs.Tell.{saysOf, saysRows}
 use Rattle.sign.specs.declared.Sign.{Sign}
 use Rattle.basis.proofs.Tests.{tests}
 use borrow.Author.Needs.{needs}
@@ -27,7 +27,7 @@ same-length c = search needs
 returns-2 : tie.Need-returns-2
 returns-2 c =
     let a = c .before .before .before .before .before .before .before .before .before .args in
-    sign-tells (λ (s : Sign). saysOf s (a .mid) (not (eqb (a .aux) 0))) (a .image .now) (a .out .now) (search needs) (c .before .before .before .before .before .load .ensures) (c .before .before .before .reply .ensures) (c .tell-written .ensures)
+    sign-tells (λ (s : Sign). saysRows s (a .mid) (not (eqb (a .aux) 0)) (a .out .now)) (λ (s : Sign). saysOf s (a .mid) (not (eqb (a .aux) 0))) (a .image .now) (a .out .now) (search needs) (c .before .before .before .before .before .load .ensures) (c .before .before .before .reply .ensures) (c .tell-written .ensures)
 
 pub yd-reply-spec : {M : Type 1} → statement M
 yd-reply-spec =

@@ -18,7 +18,7 @@ sound-requires c κs = search needs
 returns : tie.Need-returns
 returns c =
     let a = c .before .before .before .args in
-    unsound-tells (a .self) (bodyOf (a .self .room) (a .self .run)) (a .out .now) (sym (c .before .sound .ensures) ∙ not-true _ (c .if1 .taken))
+    unsound-tells (a .self) _ (bodyOf (a .self .room) (a .self .run)) (a .out .now) (sym (c .before .sound .ensures) ∙ not-true _ (c .if1 .taken))
 
 returns-2 : tie.Need-returns-2
 returns-2 c =

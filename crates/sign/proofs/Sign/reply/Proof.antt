@@ -14,7 +14,7 @@ sound-requires c κs = search needs
 returns : tie.Need-returns
 returns c =
     let a = c .before .before .before .args in
-    unsound-tells (a .self) (saysOf (a .self) (a .mid) (a .aux)) (a .out .now) (sym (c .before .sound .ensures) ∙ not-true _ (c .if1 .taken))
+    unsound-tells (a .self) _ (saysOf (a .self) (a .mid) (a .aux)) (a .out .now) (sym (c .before .sound .ensures) ∙ not-true _ (c .if1 .taken))
 
 write-reply-requires : tie.Need-write-reply-requires
 write-reply-requires c κs = search needs

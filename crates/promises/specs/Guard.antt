@@ -1,0 +1,72 @@
+-- The guard for a sign's own MID (N19, C-15): each call that takes one refuses a forbidden MID, after 16 and before all else,
+-- and with any other MID answers as in version 1.1, which had no guard.
+use Prim.Native.Nat.{ℕ}
+use mathlib.Core.Bool.{Bool, true}
+use mathlib.Core.List.{List, [], _∷_}
+use mathlib.Core.Path.{_≡_}
+use Rattle.basis.specs.Choice.{when}
+use Rattle.basis.specs.Told.{no}
+use Rattle.packet.specs.Mid.{isForbidden, Allowed}
+use Rattle.packet.specs.Wire.{queryOf, resetOf, packetAt, transmissionOf, replyOf}
+use Rattle.packet.specs.Write.{shortBy, packetRows, transmissionRows}
+use Rattle.reader.specs.Read.{lowestOf, toldOf as readTold}
+use Rattle.reply.specs.Reply.{heardFrom, replyRows, toldOf as statusTold}
+use Rattle.hear.specs.declared.Outcome.the-variants.{Refused}
+use Rattle.sign.specs.Join.{staysOf}
+use Rattle.sign.specs.Receive.{heardOf}
+use Rattle.sign.specs.Sound.{soundOf}
+use Rattle.sign.specs.Tell.{saysOf, toldRows}
+use Rattle.sign.specs.declared.Sign.{Sign}
+use Rattle.promises.specs.Unit.{Wrote, Calls, ours, leftBy, heardIn}
+use Rattle.promises.specs.Record.{stays}
+
+-- 19, and the lent buffer as it was
+abbrev pub denied : List ℕ → Wrote
+denied out = record { told = no 19; buffer = out }
+
+-- a forbidden MID is 19 whatever else a call is given, and changes no record and no lent byte; only an unsound record comes before it
+pub record Guards {R : Type 0} (u : Calls R) : Type 0 where
+  pub read : (mid : ℕ) (b : List ℕ) → isForbidden mid ≡ true → u .read mid b ≡ no 19
+  pub hear : (mid : ℕ) (b : List ℕ) → isForbidden mid ≡ true → u .hear mid b ≡ no 19
+  pub query : (mid : ℕ) (out : List ℕ) → isForbidden mid ≡ true → u .query mid out ≡ denied out
+  pub reset : (mid : ℕ) (out : List ℕ) → isForbidden mid ≡ true → u .reset mid out ≡ denied out
+  pub write : (mid id : ℕ) (body : List ℕ) (position : ℕ) (out : List ℕ) → isForbidden mid ≡ true → u .write mid id body position out ≡ denied out
+  pub transmit : (mid id : ℕ) (body out : List ℕ) → isForbidden mid ≡ true → u .transmit mid id body out ≡ denied out
+  pub answer : (mid last : ℕ) (busy sink : Bool) (out : List ℕ) → isForbidden mid ≡ true → u .answer mid last busy sink out ≡ denied out
+  pub receive : (r : R) → soundOf (u .holds r) ≡ true → (mid : ℕ) (b : List ℕ) → isForbidden mid ≡ true → u .receive r mid b ≡ stays r (no 19)
+  pub reply : (r : R) → soundOf (u .holds r) ≡ true → (mid : ℕ) (sink : Bool) (out : List ℕ) → isForbidden mid ≡ true → u .reply r mid sink out ≡ denied out
+
+-- two units that no call tells apart by a MID that is not forbidden
+pub record Agree (u v : Calls Sign) : Type 0 where
+  pub read : (mid : ℕ) (b : List ℕ) → Allowed mid → u .read mid b ≡ v .read mid b
+  pub hear : (mid : ℕ) (b : List ℕ) → Allowed mid → u .hear mid b ≡ v .hear mid b
+  pub query : (mid : ℕ) (out : List ℕ) → Allowed mid → u .query mid out ≡ v .query mid out
+  pub reset : (mid : ℕ) (out : List ℕ) → Allowed mid → u .reset mid out ≡ v .reset mid out
+  pub write : (mid id : ℕ) (body : List ℕ) (position : ℕ) (out : List ℕ) → Allowed mid → u .write mid id body position out ≡ v .write mid id body position out
+  pub transmit : (mid id : ℕ) (body out : List ℕ) → Allowed mid → u .transmit mid id body out ≡ v .transmit mid id body out
+  pub answer : (mid last : ℕ) (busy sink : Bool) (out : List ℕ) → Allowed mid → u .answer mid last busy sink out ≡ v .answer mid last busy sink out
+  pub receive : (s : Sign) (mid : ℕ) (b : List ℕ) → Allowed mid → u .receive s mid b ≡ v .receive s mid b
+  pub reply : (s : Sign) (mid : ℕ) (sink : Bool) (out : List ℕ) → Allowed mid → u .reply s mid sink out ≡ v .reply s mid sink out
+
+-- the calls of version 1.1, kept as they were: they take every MID
+abbrev pub unguarded : Calls Sign
+unguarded =
+    record {
+      holds = ours .holds;
+      read = λ mid b. readTold (lowestOf mid b);
+      hear = λ mid b. statusTold (heardFrom mid b);
+      query = λ mid out. leftBy (shortBy (queryOf mid) out ∷ []) (queryOf mid) out;
+      reset = λ mid out. leftBy (shortBy (resetOf mid) out ∷ []) (resetOf mid) out;
+      write = λ mid id body position out. leftBy (packetRows mid id body position out) (packetAt mid id body position) out;
+      transmit = λ mid id body out. leftBy (transmissionRows mid id body out) (transmissionOf mid id body) out;
+      answer = λ mid last busy sink out. leftBy (replyRows mid last busy sink out) (replyOf mid last busy sink) out;
+      judge = ours .judge;
+      forecast = ours .forecast;
+      power = ours .power;
+      receive = λ s mid b. heardIn (when (soundOf s) (heardOf s b (lowestOf mid b)) (staysOf s (Refused 16)));
+      step = ours .step;
+      clear = ours .clear;
+      reply = λ s mid sink out. leftBy (toldRows s (shortBy (saysOf s mid sink) out ∷ [])) (saysOf s mid sink) out;
+      copy = ours .copy;
+      repeat = ours .repeat;
+    }

@@ -9,20 +9,17 @@ use Rattle.packet.specs.Mid.{isForbidden, Allowed, midRow}
 use Rattle.packet.specs.Wire.{queryOf, resetOf, packetAt, transmissionOf, replyOf}
 use Rattle.packet.specs.Write.{shortBy, packetRows, transmissionRows, answerOf, bufferOf, toldOf as writtenTold}
 use Rattle.packet.proofs.Guards.{mid-stops, mid-passes}
-use Rattle.reader.specs.Read.{readOf, lowestOf, toldOf as readTold}
-use Rattle.reader.specs.declared.read.Reading.{Reading}
+use Rattle.reader.specs.Read.{toldOf as readTold}
 use Rattle.reader.proofs.Guard.{read-stops, read-passes}
 use Rattle.reply.specs.Reply.{replyRows, toldOf as statusTold}
 use Rattle.reply.proofs.Replies.{heard-stops, heard-passes}
-use Rattle.hear.specs.declared.Outcome.the-variants.{Refused}
 use Rattle.sign.specs.Join.{staysOf}
-use Rattle.sign.specs.Receive.{heardOf, receiveOf}
 use Rattle.sign.specs.Sound.{soundOf}
 use Rattle.sign.specs.Tell.{saysOf}
-use Rattle.sign.specs.declared.Sign.{Sign}
 use Rattle.sign.proofs.Joining.{forbidden-receives}
 use Rattle.promises.specs.Unit.{Wrote, ours, leftBy, heardIn}
 use Rattle.promises.specs.Guard.{denied, Guards, Agree, unguarded}
+use Rattle.promises.proofs.Before.{receives-as-before}
 
 -- what a writer leaves, by the number of its first row
 by : (bytes out : List ℕ) → ℕ → Wrote
@@ -56,7 +53,7 @@ ours-guards =
 
 -- with any other MID every call answers as before
 pub ours-agrees : Agree ours unguarded
-unfolding receiveOf by
+unfolding by
 ours-agrees =
     record {
       read = λ mid b e. ap readTold (read-passes mid b e);
@@ -66,7 +63,7 @@ ours-agrees =
       write = λ mid id body position out e. passes mid (packetRows mid id body position out) (packetAt mid id body position) out e;
       transmit = λ mid id body out e. passes mid (transmissionRows mid id body out) (transmissionOf mid id body) out e;
       answer = λ mid last busy sink out e. passes mid (replyRows mid last busy sink out) (replyOf mid last busy sink) out e;
-      receive = λ s mid b e. ap (λ (x : Reading). heardIn (when (soundOf s) (heardOf s b x) (staysOf s (Refused 16)))) (read-passes mid b e);
+      receive = λ s mid b e. ap heardIn (receives-as-before s mid b e);
       reply = λ s mid sink out e.
           let own = shortBy (saysOf s mid sink) out ∷ [] in
           ap (λ (n : ℕ). by (saysOf s mid sink) out (when (not (soundOf s)) 16 n)) (mid-passes mid own e);

@@ -1,3 +1,4 @@
+pub mod Before
 pub mod Bench
 pub mod Contracts
 pub mod Delivery

@@ -33,6 +33,9 @@ use Rattle.reply.proofs.write_reply.Reads as reply-write-reply-reads
 use Rattle.reply.proofs.is_last as reply-is-last
 use Rattle.reply.proofs.is_last.Kinds as reply-is-last-kinds
 use Rattle.reply.proofs.is_last.Reads as reply-is-last-reads
+use Rattle.packet.proofs.forbidden as packet-forbidden
+use Rattle.packet.proofs.forbidden.Kinds as packet-forbidden-kinds
+use Rattle.packet.proofs.forbidden.Reads as packet-forbidden-reads
 use Rattle.packet.proofs.sum_of as packet-sum-of
 use Rattle.packet.proofs.sum_of.Kinds as packet-sum-of-kinds
 use Rattle.packet.proofs.sum_of.Reads as packet-sum-of-reads
@@ -239,6 +242,10 @@ one-reply-write-reply κs a r r′ s s′ h h′ = (one (h .answered) (h′ .ans
 pub one-reply-is-last : (κs : Lifetimes.Lfts 0) (a : World.ArgsD reply-is-last.signature κs) (r r′ : World.ResD reply-is-last.signature κs)
     (s s′ : Clauses.AtExit (K.endedOf 0 reply-is-last-kinds.ps reply-is-last-kinds.r) κs) → reply-is-last-reads.Post κs a r s → reply-is-last-reads.Post κs a r′ s′ → r ≡ r′
 one-reply-is-last κs a r r′ s s′ h h′ = one h h′
+
+pub one-packet-forbidden : (κs : Lifetimes.Lfts 0) (a : World.ArgsD packet-forbidden.signature κs) (r r′ : World.ResD packet-forbidden.signature κs)
+    (s s′ : Clauses.AtExit (K.endedOf 0 packet-forbidden-kinds.ps packet-forbidden-kinds.r) κs) → packet-forbidden-reads.Post κs a r s → packet-forbidden-reads.Post κs a r′ s′ → r ≡ r′
+one-packet-forbidden κs a r r′ s s′ h h′ = one h h′
 
 pub one-packet-sum-of : (κs : Lifetimes.Lfts 1) (a : World.ArgsD packet-sum-of.signature κs) (r r′ : World.ResD packet-sum-of.signature κs)
     (s s′ : Clauses.AtExit (K.endedOf 1 packet-sum-of-kinds.ps packet-sum-of-kinds.r) κs) → packet-sum-of-reads.Post κs a r s → packet-sum-of-reads.Post κs a r′ s′ → r ≡ r′

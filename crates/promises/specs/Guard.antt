@@ -4,21 +4,18 @@ use Prim.Native.Nat.{ℕ}
 use mathlib.Core.Bool.{Bool, true}
 use mathlib.Core.List.{List, [], _∷_}
 use mathlib.Core.Path.{_≡_}
-use Rattle.basis.specs.Choice.{when}
 use Rattle.basis.specs.Told.{no}
 use Rattle.packet.specs.Mid.{isForbidden, Allowed}
 use Rattle.packet.specs.Wire.{queryOf, resetOf, packetAt, transmissionOf, replyOf}
 use Rattle.packet.specs.Write.{shortBy, packetRows, transmissionRows}
 use Rattle.reader.specs.Read.{lowestOf, toldOf as readTold}
 use Rattle.reply.specs.Reply.{heardFrom, replyRows, toldOf as statusTold}
-use Rattle.hear.specs.declared.Outcome.the-variants.{Refused}
-use Rattle.sign.specs.Join.{staysOf}
-use Rattle.sign.specs.Receive.{heardOf}
 use Rattle.sign.specs.Sound.{soundOf}
 use Rattle.sign.specs.Tell.{saysOf, toldRows}
 use Rattle.sign.specs.declared.Sign.{Sign}
 use Rattle.promises.specs.Unit.{Wrote, Calls, ours, leftBy, heardIn}
 use Rattle.promises.specs.Record.{stays}
+use Rattle.promises.specs.Before.{receivedBefore}
 
 -- 19, and the lent buffer as it was
 abbrev pub denied : List ℕ → Wrote
@@ -36,7 +33,7 @@ pub record Guards {R : Type 0} (u : Calls R) : Type 0 where
   pub receive : (r : R) → soundOf (u .holds r) ≡ true → (mid : ℕ) (b : List ℕ) → isForbidden mid ≡ true → u .receive r mid b ≡ stays r (no 19)
   pub reply : (r : R) → soundOf (u .holds r) ≡ true → (mid : ℕ) (sink : Bool) (out : List ℕ) → isForbidden mid ≡ true → u .reply r mid sink out ≡ denied out
 
--- two units that no call tells apart by a MID that is not forbidden
+-- two units that answer alike to every MID that is not forbidden, in each call that takes one
 pub record Agree (u v : Calls Sign) : Type 0 where
   pub read : (mid : ℕ) (b : List ℕ) → Allowed mid → u .read mid b ≡ v .read mid b
   pub hear : (mid : ℕ) (b : List ℕ) → Allowed mid → u .hear mid b ≡ v .hear mid b
@@ -63,7 +60,7 @@ unguarded =
       judge = ours .judge;
       forecast = ours .forecast;
       power = ours .power;
-      receive = λ s mid b. heardIn (when (soundOf s) (heardOf s b (lowestOf mid b)) (staysOf s (Refused 16)));
+      receive = λ s mid b. heardIn (receivedBefore s mid b);
       step = ours .step;
       clear = ours .clear;
       reply = λ s mid sink out. leftBy (toldRows s (shortBy (saysOf s mid sink) out ∷ [])) (saysOf s mid sink) out;

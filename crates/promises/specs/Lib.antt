@@ -1,3 +1,4 @@
+pub mod Before
 pub mod Bench
 pub mod Delivery
 pub mod Dispatch

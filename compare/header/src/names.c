@@ -46,6 +46,7 @@ void race_assert_names(const uint32_t *used, size_t count)
     NEXT_IS(YD_NO_OTHER);
     NEXT_IS(YD_NO_UNSOUND);
     NEXT_IS(YD_NO_SETTINGS);
+    NEXT_IS(YD_NO_MID_FORBIDDEN);
     NEXT_IS(YD_NO_CARET);
     NEXT_IS(YD_NO_UNKNOWN);
     NEXT_IS(YD_NO_NUMBER);

@@ -2,6 +2,7 @@
 //! Answers to the C interface: which call takes what, and which numbers for no it can give.
 
 use crate::archive;
+use crate::packets::readdress;
 use reference::calls;
 
 /// The calls of the interface.
@@ -26,7 +27,7 @@ pub enum Function {
     Version,
 }
 
-/// What a call is named, what it takes, and the numbers that it can give, yes among them.
+/// What a call is named, what it takes, and the numbers that it can give: yes, then the others in the order in which they come.
 pub struct Shape {
     pub name: &'static str,
     pub numbers: &'static [&'static str],
@@ -54,22 +55,22 @@ use Function::*;
 #[rustfmt::skip]
 pub const SHAPES: [Shape; 17] = [
     shape("yd_read_packet", &["mid"], BYTES, ANSWER, false,
-        &[0, 252, 1, 2, 3, 4, 5, 6, 7, 8, 9, 10, 11]),
-    shape("yd_write_query", &["mid"], None, OUT, false, &[0, 34]),
-    shape("yd_write_reset", &["mid"], None, OUT, false, &[0, 34]),
-    shape("yd_write_packet", &["mid", "id", "position"], BODY, OUT, false, &[0, 31, 32, 33, 34]),
-    shape("yd_write_transmission", &["mid", "id"], BODY, OUT, false, &[0, 31, 32, 34]),
-    shape("yd_write_reply", &["mid", "last", "busy", "aux"], None, OUT, false, &[0, 32, 34]),
-    shape("yd_read_reply", &["mid"], BYTES, ANSWER, false, &[0, 252, 35]),
+        &[0, 19, 252, 1, 2, 3, 4, 5, 6, 7, 8, 9, 10, 11]),
+    shape("yd_write_query", &["mid"], None, OUT, false, &[0, 19, 34]),
+    shape("yd_write_reset", &["mid"], None, OUT, false, &[0, 19, 34]),
+    shape("yd_write_packet", &["mid", "id", "position"], BODY, OUT, false, &[0, 19, 31, 32, 33, 34]),
+    shape("yd_write_transmission", &["mid", "id"], BODY, OUT, false, &[0, 19, 31, 32, 34]),
+    shape("yd_write_reply", &["mid", "last", "busy", "aux"], None, OUT, false, &[0, 19, 32, 34]),
+    shape("yd_read_reply", &["mid"], BYTES, ANSWER, false, &[0, 19, 252, 35]),
     shape("yd_judge", &[], BODY, None, false, &[0, 28, 21, 22, 23, 24, 25, 26, 27]),
     shape("yd_forecast", &["pace", "scan_setting"], BODY, ANSWER, false,
         &[0, 252, 17, 28, 21, 22, 23, 24, 25, 26, 27]),
     shape("yd_power_on", &[], None, None, true, &[0, 251]),
     shape("yd_reset", &[], None, None, true, &[0, 251, 16]),
     shape("yd_receive", &["mid"], BYTES, ANSWER, true,
-        &[0, 251, 16, 252, 1, 2, 3, 4, 5, 6, 7, 8, 9, 10, 11, 12, 13]),
+        &[0, 251, 16, 19, 252, 1, 2, 3, 4, 5, 6, 7, 8, 9, 10, 11, 12, 13]),
     shape("yd_step", &[], None, ANSWER, true, &[0, 251, 16, 252]),
-    shape("yd_reply", &["mid", "aux"], None, OUT, true, &[0, 251, 16, 34]),
+    shape("yd_reply", &["mid", "aux"], None, OUT, true, &[0, 251, 16, 19, 34]),
     shape("yd_copy_body", &[], None, OUT, true, &[0, 251, 16, 34]),
     shape("yd_repeat", &["place", "length"], BODY, None, false, &[0]),
     shape("yd_version", &[], None, None, false, &[0]),
@@ -78,6 +79,13 @@ pub const SHAPES: [Shape; 17] = [
 impl Function {
     pub fn shape(self) -> &'static Shape {
         &SHAPES[self as usize]
+    }
+}
+
+impl Shape {
+    /// Whether the call is given the MID of a sign, which is then the first of its numbers.
+    pub fn takes_mid(&self) -> bool {
+        self.numbers.first() == Some(&"mid")
     }
 }
 
@@ -113,6 +121,24 @@ impl Case {
     pub fn out(mut self, out: Vec<u8>) -> Self {
         self.out = out;
         self
+    }
+
+    /// The MID that the call is given, if it takes one.
+    pub fn mid(&self) -> Option<u8> {
+        self.function.shape().takes_mid().then_some(self.numbers[0] as u8)
+    }
+
+    /// The same call with another MID; a packet or reply that was the first sign's is made the other's.
+    pub fn readdressed(&self, mid: u8) -> Case {
+        let mut case = self.clone();
+        case.numbers[0] = mid.into();
+        let before = self.numbers[0] as u8;
+        match self.function {
+            ReadPacket | Receive => readdress(&mut case.bytes, before, mid),
+            ReadReply => readdress(&mut case.bytes, before ^ 1, mid ^ 1),
+            _ => {}
+        }
+        case
     }
 }
 

@@ -2,6 +2,7 @@
 //! Answers to 01, the paragraph on sound records, and to the number 16.
 
 use crate::case::{Case, Function};
+use crate::mids;
 use crate::packets;
 use crate::racer::Racer;
 use crate::records::{packet_for, record};
@@ -100,7 +101,7 @@ fn telling_values(place: usize, present: u8) -> Vec<u8> {
 
 /// A call on an image, its other inputs right for it more often than not.
 fn call_on(racer: &mut Racer, function: Function, image: &[u8]) -> Option<()> {
-    let mid = racer.random.byte();
+    let mid = mids::any(&mut racer.random);
     let mut case = Case::new(function, &[mid.into(), racer.random.below(3)]).image(image);
     case.out = match function {
         Function::Receive | Function::Step => racer.answer(function),

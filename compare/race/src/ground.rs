@@ -1,18 +1,24 @@
 //! How often calls came up on ground where they can easily go wrong: images with one fault only, refusals that must come in
-//! their order, changes of what the one room holds, bytes and widths of a text, what a forecast leaves, and stretches at an edge.
-//! Answers to the C interface's layout of an image and its order of refusals, and to 01 on texts, forecast, repeater.
+//! their order, forbidden MIDs beside all else that is refused, changes of what the one room holds, bytes and widths of a text,
+//! what a forecast leaves, and stretches at an edge.
+//! Answers to the C interface's layout of an image and its order of refusals, to 01 on texts, forecast, repeater, and to N19.
 
+use crate::by_mid::{has_forbidden_mid, in_place_of, with_allowed_mid};
 use crate::case::{After, Case, Function, SHAPES};
 use crate::measured::{Measured, texts_of};
+use crate::packets::readdress;
 use crate::records::is_sound;
 use reference::calls::{RECEIVE_ANSWER_SIZE, STEP_ANSWER_SIZE};
 use reference::image::{
     AT_ID, AT_LAST, AT_LENGTH, AT_LENS, AT_LOOP_LEFT, AT_PLACE, AT_ROOM, AT_SINK, AT_TOTAL, IMAGE_SIZE,
 };
-use reference::packet::{DATA_MOST, REPLY, read_packet};
+use reference::packet::{DATA_MOST, FORBIDDEN_MIDS, REPLY, read_packet, read_reply};
 use reference::program::{Kind, Loop, Reader, judge};
 
-use Function::{CopyBody, Forecast, Judge, Receive, Repeat, Reply, Reset, Step};
+use Function::{
+    CopyBody, Forecast, Judge, ReadPacket, ReadReply, Receive, Repeat, Reply, Reset, Step, WritePacket, WriteQuery,
+    WriteReply, WriteReset, WriteTransmission,
+};
 
 type Met = fn(&Case, &After) -> bool;
 
@@ -37,11 +43,17 @@ const JUDGES: &[Function] = &[Judge];
 const FORECASTS: &[Function] = &[Forecast];
 const PRICES: &[Function] = &[Forecast, Step];
 const REPEATS: &[Function] = &[Repeat];
+const MIDS: &[Function] =
+    &[ReadPacket, WriteQuery, WriteReset, WritePacket, WriteTransmission, WriteReply, ReadReply, Receive, Reply];
+const MIDS_AND_IMAGES: &[Function] = &[Receive, Reply];
+const MIDS_AND_ANSWERS: &[Function] = &[ReadPacket, ReadReply, Receive];
+const MIDS_AND_BUFFERS: &[Function] = &[WriteQuery, WriteReset, WritePacket, WriteTransmission, WriteReply, Reply];
+const READS: &[Function] = &[ReadPacket, Receive];
 
-/// What makes an image unsound by itself, then the order of refusals, then what changes the room or must leave it.
+/// What makes an image unsound by itself, then the order of refusals, then forbidden MIDs, then what changes the room or must leave it.
 /// After them the bytes of a text, its two widths, a forecast's refusals, what it leaves, and the edges of what the repeater is told.
 #[rustfmt::skip]
-const GROUNDS: [Ground; 64] = [
+const GROUNDS: [Ground; 83] = [
     ground("AUX byte over 1, all else sound", ALL, |case, _| faulty(case, right_aux)),
     ground("Busy with stray collection bytes, all else sound", ALL,
         |case, _| is_busy(case) && faulty(case, no_collection)),
@@ -63,6 +75,38 @@ const GROUNDS: [Ground; 64] = [
         |case, after| is_no(after, 252) && is_wrong_packet(case)),
     ground("unsound record, wrong packet (16)", PACKETS, |case, after| is_no(after, 16) && is_wrong_packet(case)),
     ground("short buffer, unsound record (16)", BUFFERS, |case, after| is_short(case) && is_no(after, 16)),
+
+    ground("forbidden MID, all else right (19)", MIDS, |case, after| stands_for(case, after, 0)),
+    ground("forbidden MID, short answer (19)", MIDS_AND_ANSWERS, |case, after| stands_for(case, after, 252)),
+    ground("forbidden MID, short answer, wrong packet (19)", READS,
+        |case, after| stands_for(case, after, 252) && is_wrong_packet(case)),
+    ground("forbidden MID, wrong packet (19)", READS,
+        |case, after| in_place_of(case, after).is_some_and(|no| (1..=11).contains(&no))),
+    ground("forbidden MID, Busy sign, new number (19)", PACKETS, |case, after| stands_for(case, after, 12)),
+    ground("forbidden MID, other total or data (19)", PACKETS, |case, after| stands_for(case, after, 13)),
+    ground("forbidden MID, wrong reply (19)", &[ReadReply], |case, after| stands_for(case, after, 35)),
+    ground("forbidden MID, wrong body (19)", &[WritePacket, WriteTransmission],
+        |case, after| stands_for(case, after, 31)),
+    ground("forbidden MID, wrong ID (19)", &[WritePacket, WriteTransmission, WriteReply],
+        |case, after| stands_for(case, after, 32)),
+    ground("forbidden MID, wrong position (19)", &[WritePacket], |case, after| stands_for(case, after, 33)),
+    ground("forbidden MID, short buffer (19)", MIDS_AND_BUFFERS, |case, after| stands_for(case, after, 34)),
+    ground("forbidden MID, image of another size (251)", MIDS_AND_IMAGES,
+        |case, after| has_forbidden_mid(case) && is_no(after, 251)),
+    ground("forbidden MID, unsound record (16)", MIDS_AND_IMAGES,
+        |case, after| has_forbidden_mid(case) && is_no(after, 16)),
+    ground("forbidden MID, AUX byte over 1, all else sound (16)", MIDS_AND_IMAGES,
+        |case, after| has_forbidden_mid(case) && is_no(after, 16) && faulty(case, right_aux)),
+    ground("forbidden MID, short answer or buffer, image of another size (251)", MIDS_AND_IMAGES,
+        |case, after| has_forbidden_mid(case) && is_short(case) && is_no(after, 251)),
+    ground("forbidden MID, short answer or buffer, unsound record (16)", MIDS_AND_IMAGES,
+        |case, after| has_forbidden_mid(case) && is_short(case) && is_no(after, 16)),
+    ground("forbidden MID, wrong packet, unsound record (16)", PACKETS,
+        |case, after| has_forbidden_mid(case) && is_no(after, 16) && is_wrong_packet(case)),
+    ground("right packet of a forbidden MID to another sign (5)", READS,
+        |case, after| is_no(after, 5) && is_right_for_forbidden_mid(case)),
+    ground("right reply of a forbidden MID, read for another sign (35)", &[ReadReply],
+        |case, after| is_no(after, 35) && is_right_for_forbidden_mid(case)),
 
     ground("query to a Busy sign", PACKETS, |case, after| is_busy(case) && did(after, 1)),
     ground("Repeat at a Busy sign", PACKETS, |case, after| is_busy(case) && did(after, 3)),
@@ -193,8 +237,25 @@ fn is_short(case: &Case) -> bool {
     case.out.len() < needed
 }
 
+/// Whether a packet would be refused for what it is, its MID being allowed.
 fn is_wrong_packet(case: &Case) -> bool {
+    let case = with_allowed_mid(case);
     read_packet(case.numbers[0] as u8, &case.bytes).is_err()
+}
+
+/// Whether a call was refused for its MID where it would else have given this number, 0 being yes.
+fn stands_for(case: &Case, after: &After, no: u32) -> bool {
+    in_place_of(case, after) == Some(no)
+}
+
+/// Whether a packet or reply bears a forbidden MID and has nothing else wrong.
+fn is_right_for_forbidden_mid(case: &Case) -> bool {
+    let Some(&mid) = case.bytes.first().filter(|first| FORBIDDEN_MIDS.contains(first)) else {
+        return false;
+    };
+    let mut bytes = case.bytes.clone();
+    readdress(&mut bytes, mid, 0x80);
+    if case.function == ReadReply { read_reply(0x81, &bytes).is_ok() } else { read_packet(0x80, &bytes).is_ok() }
 }
 
 fn is_column(byte: u8) -> bool {

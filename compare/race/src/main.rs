@@ -3,10 +3,12 @@
 
 mod archive;
 mod bodies;
+mod by_mid;
 mod case;
 mod damage;
 mod ground;
 mod measured;
+mod mids;
 mod names;
 mod numbers;
 mod packets;
@@ -54,6 +56,7 @@ fn main() -> ExitCode {
 fn once(racer: &mut Racer) -> Option<()> {
     sizes::buffers(racer)?;
     sizes::images(racer)?;
+    mids::mids(racer)?;
     numbers::numbers(racer)?;
     texts::texts(racer)?;
     widths::widths(racer)

@@ -35,10 +35,11 @@ const SIZES: [usize; 15] = [
 ];
 
 #[rustfmt::skip]
-const NOES: [No; 28] = [
+const NOES: [No; 29] = [
     No::Under7, No::Over21, No::Count, No::Sum, No::Mid, No::Second, No::Zero, No::IdOver, No::IdLength, No::Position,
-    No::NotFull, No::Busy, No::Other, No::Unsound, No::Settings, No::Caret, No::Unknown, No::Number, No::Forbidden,
-    No::Tilde, No::Loop, No::AfterEnd, No::Over84, No::Body, No::WriteId, No::WritePosition, No::OutShort, No::Reply,
+    No::NotFull, No::Busy, No::Other, No::Unsound, No::Settings, No::MidForbidden, No::Caret, No::Unknown, No::Number,
+    No::Forbidden, No::Tilde, No::Loop, No::AfterEnd, No::Over84, No::Body, No::WriteId, No::WritePosition,
+    No::OutShort, No::Reply,
 ];
 
 #[rustfmt::skip]

@@ -4,9 +4,8 @@
 use crate::bodies::NUMBERED;
 use crate::case::{Case, Function};
 use crate::racer::Racer;
-use crate::records::power_on_image;
+use crate::records::running_image;
 use reference::calls::STEP_ANSWER_SIZE;
-use reference::image::{AT_LENGTH, AT_ROOM, IMAGE_SIZE};
 
 /// Each command that takes a number, stepped, which tells the value of a right one, and judged. The list has the pace twice.
 pub fn numbers(racer: &mut Racer) -> Option<()> {
@@ -17,18 +16,10 @@ pub fn numbers(racer: &mut Racer) -> Option<()> {
                 let close: &[u8] = if letters == b"L" { b"^E" } else { b"" };
                 let body = [b"^", letters, number.as_bytes(), close].concat();
                 let answer = racer.random.bytes(STEP_ANSWER_SIZE);
-                racer.call(Case::new(Function::Step, &[]).image(&running(&body)).out(answer))?;
+                racer.call(Case::new(Function::Step, &[]).image(&running_image(&body)).out(answer))?;
                 racer.call(Case::new(Function::Judge, &[]).bytes(body))?;
             }
         }
     }
     Some(())
-}
-
-/// The image of a sign just switched on, with this body at its first command.
-fn running(body: &[u8]) -> [u8; IMAGE_SIZE] {
-    let mut image = power_on_image();
-    image[AT_ROOM..AT_ROOM + body.len()].copy_from_slice(body);
-    image[AT_LENGTH] = body.len() as u8;
-    image
 }

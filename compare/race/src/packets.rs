@@ -22,9 +22,20 @@ pub fn mend(bytes: &mut [u8]) {
     mend_sum(bytes);
 }
 
-fn mend_sum(bytes: &mut [u8]) {
+/// Sets the sum right.
+pub fn mend_sum(bytes: &mut [u8]) {
     if let Some((last, front)) = bytes.split_last_mut() {
         *last = front.iter().fold(0u8, |sum, &byte| sum.wrapping_sub(byte));
+    }
+}
+
+/// Has bytes with this MID bear another one, their sum being as right or wrong as it was.
+pub fn readdress(bytes: &mut [u8], from: u8, to: u8) {
+    if let [first, .., last] = bytes
+        && *first == from
+    {
+        *first = to;
+        *last = last.wrapping_add(from).wrapping_sub(to);
     }
 }
 

@@ -24,6 +24,14 @@ pub fn power_on_image() -> [u8; IMAGE_SIZE] {
     image
 }
 
+/// The image of a sign just switched on, with this body at its first command.
+pub fn running_image(body: &[u8]) -> [u8; IMAGE_SIZE] {
+    let mut image = power_on_image();
+    image[AT_ROOM..AT_ROOM + body.len()].copy_from_slice(body);
+    image[AT_LENGTH] = body.len() as u8;
+    image
+}
+
 /// An image of a sound record.
 pub fn sound(random: &mut Random) -> Vec<u8> {
     std::iter::repeat_with(|| record(random)).find(|image| is_sound(image)).unwrap_or_default()

@@ -3,11 +3,13 @@
 
 use crate::bodies;
 use crate::case::{After, Case, Function};
+use crate::mids;
 use crate::packets;
 use crate::racer::Racer;
 use crate::records::packet_for;
 use crate::sizes::WITH_IMAGE;
 use reference::image::{AT_LENGTH, IMAGE_SIZE};
+use reference::packet::FORBIDDEN_MIDS;
 
 /// A sign under way, and the packets around it.
 struct Ride {
@@ -23,7 +25,7 @@ struct Ride {
 /// Lets a sign ride from power-on, and keeps some of the images that it comes through.
 pub fn ride(racer: &mut Racer, reached: &mut Vec<Vec<u8>>) -> Option<()> {
     let image = racer.random.bytes(IMAGE_SIZE);
-    let mid = racer.random.byte();
+    let mid = mids::allowed(&mut racer.random);
     let image = racer.call(Case::new(Function::PowerOn, &[]).image(&image))?.image().to_vec();
     let mut ride = Ride { image, mid, id: racer.random.byte() & 0x3F, coming: Vec::new(), around: Vec::new() };
     for _ in 0..racer.random.within(50, 400) {
@@ -58,9 +60,14 @@ impl Ride {
         }
     }
 
-    /// Has the sign answer, and goes on with the image that it left.
+    /// Has the sign answer, and goes on with the image that it left. A few calls come with a forbidden MID first, which leaves it.
     fn call(&mut self, racer: &mut Racer, case: Case) -> Option<After> {
-        let after = racer.call(case.image(&self.image))?;
+        let case = case.image(&self.image);
+        if case.mid().is_some() && racer.random.chance(3) {
+            let mid = racer.random.pick(&FORBIDDEN_MIDS);
+            racer.call(case.readdressed(mid))?;
+        }
+        let after = racer.call(case)?;
         self.image = after.image().to_vec();
         Some(after)
     }
@@ -123,6 +130,7 @@ impl Ride {
     fn odd_packet(&mut self, racer: &mut Racer) -> Option<()> {
         let random = &mut racer.random;
         let other = self.mid ^ 1 << random.below(8);
+        let other = if random.chance(10) { random.pick(&FORBIDDEN_MIDS) } else { other };
         let bytes = match random.below(4) {
             0 => packets::packet(random, self.mid),
             1 => packets::whole(random, other),
@@ -171,9 +179,10 @@ impl Ride {
         let mut image = self.image.clone();
         image.resize(racer.random.pick(&[size, any]), 0);
         for function in WITH_IMAGE {
-            let bytes = packets::whole(&mut racer.random, self.mid);
+            let mid = mids::any(&mut racer.random);
+            let bytes = packets::whole(&mut racer.random, mid);
             let out = racer.answer(function);
-            racer.call(Case::new(function, &[self.mid.into()]).image(&image).bytes(bytes).out(out))?;
+            racer.call(Case::new(function, &[mid.into()]).image(&image).bytes(bytes).out(out))?;
         }
         Some(())
     }

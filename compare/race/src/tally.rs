@@ -1,6 +1,7 @@
 //! How often each call, each number for no and each outcome occurred, and what never did.
 //! Answers to the C interface's lists, so that a reader sees what the generator reaches.
 
+use crate::by_mid::{ByMid, in_place_of};
 use crate::case::{After, Case, Function, SHAPES};
 use crate::ground::Grounds;
 use crate::measured::{Measured, texts_of};
@@ -72,8 +73,10 @@ const BYTES: [u32; VALUES] = {
 };
 
 #[rustfmt::skip]
-const GROUPS: [Group; 21] = [
+const GROUPS: [Group; 23] = [
     Group { name: "yd_read_packet, what", function: Function::ReadPacket, read: first_word, expected: &[1, 2, 3] },
+    Group { name: "yd_read_packet, what 19 came before, 0 is yes", function: Function::ReadPacket, read: in_place_of,
+        expected: &[0, 1, 2, 3, 4, 5, 6, 7, 8, 9, 10, 11, 252] },
     Group { name: "yd_read_reply, Busy", function: Function::ReadReply,
         read: |_, after| yes(after).then(|| after.word(1)), expected: &[0, 1] },
     Group { name: "yd_read_reply, AUX reads S", function: Function::ReadReply,
@@ -93,6 +96,8 @@ const GROUPS: [Group; 21] = [
         read: edge_at_96, expected: &[0, 1, 2, 3] },
     Group { name: "yd_forecast, blank edge of an `I` of 97 lit, which scrolls", function: Function::Forecast,
         read: edge_at_97, expected: &[0, 1, 2, 3] },
+    Group { name: "yd_receive, what 19 came before, 0 is yes", function: Function::Receive, read: in_place_of,
+        expected: &[0, 1, 2, 3, 4, 5, 6, 7, 8, 9, 10, 11, 12, 13, 252] },
     Group { name: "yd_receive, outcome", function: Function::Receive, read: first_word, expected: &[1, 2, 3, 4, 5] },
     Group { name: "yd_receive, number of a released body", function: Function::Receive, read: released,
         expected: &[0, 21, 22, 23, 24, 25, 26, 27] },
@@ -112,12 +117,13 @@ const GROUPS: [Group; 21] = [
     Group { name: "yd_repeat, shows the stretch", function: Function::Repeat, read: value, expected: &[0, 1] },
 ];
 
-const VALUES: usize = 256;
+pub const VALUES: usize = 256;
 
 pub struct Tally {
     calls: [u64; SHAPES.len()],
     noes: Vec<[u64; VALUES]>,
     groups: Vec<[u64; VALUES]>,
+    by_mid: ByMid,
     grounds: Grounds,
 }
 
@@ -127,6 +133,7 @@ impl Tally {
             calls: [0; SHAPES.len()],
             noes: vec![[0; VALUES]; SHAPES.len()],
             groups: vec![[0; VALUES]; GROUPS.len()],
+            by_mid: ByMid::new(),
             grounds: Grounds::new(),
         }
     }
@@ -143,6 +150,7 @@ impl Tally {
                 counts[(value as usize).min(VALUES - 1)] += 1;
             }
         }
+        self.by_mid.count(case, after);
         self.grounds.count(case, after);
     }
 
@@ -156,6 +164,7 @@ impl Tally {
             println!("{}:", group.name);
             print_counts(" ", counts);
         }
+        self.by_mid.print();
         self.grounds.print();
     }
 
@@ -169,6 +178,7 @@ impl Tally {
         for (group, counts) in GROUPS.iter().zip(&self.groups) {
             check(group.name, group.expected, counts, &mut faults);
         }
+        faults.extend(self.by_mid.faults());
         faults.extend(self.grounds.faults());
         faults
     }
@@ -182,7 +192,8 @@ fn print_counts(title: &str, counts: &[u64]) {
     }
 }
 
-fn check(name: &str, expected: &[u32], counts: &[u64], faults: &mut Vec<String>) {
+/// Adds what should have occurred and did not, and what should not have and did.
+pub fn check(name: &str, expected: &[u32], counts: &[u64], faults: &mut Vec<String>) {
     for (value, count) in (0u32..).zip(counts) {
         match (expected.contains(&value), *count > 0) {
             (true, false) => faults.push(format!("{name} {value} never occurred")),

@@ -3,32 +3,41 @@
 
 use crate::bodies;
 use crate::case::{Case, Function};
+use crate::mids;
 use crate::packets;
 use crate::racer::Racer;
+use crate::random::Random;
 use reference::packet::{FRAME, REPLY};
 
 /// Packets and replies, read.
 pub fn read(racer: &mut Racer) -> Option<()> {
     for _ in 0..100 {
-        let mid = racer.random.byte();
-        let told = if racer.random.chance(95) { mid } else { mid ^ 1 << racer.random.below(8) };
+        let mid = mids::any(&mut racer.random);
         let bytes = packets::packet(&mut racer.random, mid);
+        let numbers = [reader(&mut racer.random, mid)];
         let answer = racer.answer(Function::ReadPacket);
-        racer.call(Case::new(Function::ReadPacket, &[told.into()]).bytes(bytes).out(answer))?;
+        racer.call(Case::new(Function::ReadPacket, &numbers).bytes(bytes).out(answer))?;
     }
     for _ in 0..40 {
-        let mid = racer.random.byte();
+        let mid = mids::any(&mut racer.random);
         let bytes = packets::reply(&mut racer.random, mid);
+        let numbers = [reader(&mut racer.random, mid)];
         let answer = racer.answer(Function::ReadReply);
-        racer.call(Case::new(Function::ReadReply, &[mid.into()]).bytes(bytes).out(answer))?;
+        racer.call(Case::new(Function::ReadReply, &numbers).bytes(bytes).out(answer))?;
     }
     Some(())
+}
+
+/// The MID by which bytes of this MID are read: mostly the same, sometimes one that is not theirs.
+fn reader(random: &mut Random, mid: u8) -> usize {
+    let other = mid ^ 1 << random.below(8);
+    if random.chance(95) { mid.into() } else { other.into() }
 }
 
 /// Queries, resets, replies, packets and transmissions, written.
 pub fn write(racer: &mut Racer) -> Option<()> {
     for _ in 0..20 {
-        let mid = racer.random.byte().into();
+        let mid = mids::any(&mut racer.random).into();
         for function in [Function::WriteQuery, Function::WriteReset] {
             let out = racer.buffer(FRAME);
             racer.call(Case::new(function, &[mid]).out(out))?;

@@ -1,11 +1,11 @@
 //! One function for each call of the C interface, over lent slices, with the reference behind it.
-//! Answers to that interface: its results, its answers in words, and its numbers 251 and 252. A call that takes an image
-//! says 251 first, then 16, then 252, then the rest; one without says 252 first.
+//! Answers to that interface: its results, its answers in words, and its numbers 251 and 252. A call says the first that
+//! applies: 251 and then 16 if it takes an image, 19 if it takes a MID, 252 if it has an answer, then the rest.
 
 use crate::image::IMAGE_SIZE;
 use crate::machine::{Forecast, Step, forecast as forecast_of};
 use crate::no::{No, Refusal};
-use crate::packet::{self, Packet, Reply};
+use crate::packet::{self, Packet, Reply, check_mid};
 use crate::program;
 use crate::sign::{Received, Released, Sign, stretch};
 
@@ -20,7 +20,7 @@ pub const STEP_ANSWER_SIZE: usize = 28;
 pub const RECEIVE_BODY_OFFSET: usize = 16;
 
 /// The version of the interface: major, minor, patch.
-const VERSION: [usize; 3] = [1, 1, 0];
+const VERSION: [usize; 3] = [1, 2, 0];
 
 /// The numbers that only this interface has.
 pub const NO_IMAGE_SIZE: u32 = 251;
@@ -44,9 +44,12 @@ fn written(result: Result<usize, No>) -> u32 {
     }
 }
 
-/// The no to an answer that is too short for a record's call: an unsound record is told first.
-fn too_short(sign: &Sign) -> u32 {
-    if sign.is_sound() { NO_ANSWER_SHORT } else { No::Unsound as u32 }
+/// The no to an answer that is too short, unless the record or the MID, which are judged before it, have a no of their own.
+fn too_short<T>(judged_before: Result<T, No>) -> u32 {
+    match judged_before {
+        Ok(_) => NO_ANSWER_SHORT,
+        Err(no) => no as u32,
+    }
 }
 
 /// Lays words at the front of an answer, lowest byte first.
@@ -58,7 +61,7 @@ fn lay_words(words: &[u32], answer: &mut [u8]) {
 
 pub fn read_packet(mid: u8, bytes: &[u8], answer: &mut [u8]) -> u32 {
     let Some(answer) = answer.first_chunk_mut::<PACKET_ANSWER_SIZE>() else {
-        return NO_ANSWER_SHORT;
+        return too_short(check_mid(mid));
     };
     let words = match packet::read_packet(mid, bytes) {
         Err(no) => return no as u32,
@@ -96,7 +99,7 @@ pub fn write_reply(mid: u8, last: u8, busy: u8, aux: u8, out: &mut [u8]) -> u32 
 
 pub fn read_reply(mid: u8, bytes: &[u8], answer: &mut [u8]) -> u32 {
     let Some(answer) = answer.first_chunk_mut::<REPLY_ANSWER_SIZE>() else {
-        return NO_ANSWER_SHORT;
+        return too_short(check_mid(mid));
     };
     match packet::read_reply(mid, bytes) {
         Err(no) => no as u32,
@@ -157,7 +160,7 @@ pub fn receive(image: &mut [u8], mid: u8, bytes: &[u8], answer: &mut [u8]) -> u3
     };
     let mut sign = Sign::from_image(image);
     let Some(answer) = answer.first_chunk_mut::<RECEIVE_ANSWER_SIZE>() else {
-        return too_short(&sign);
+        return too_short(sign.standing().and_then(|_| check_mid(mid)));
     };
     match sign.receive(mid, bytes) {
         Err(no) => no as u32,
@@ -196,7 +199,7 @@ pub fn step(image: &mut [u8], answer: &mut [u8]) -> u32 {
     };
     let mut sign = Sign::from_image(image);
     let Some(answer) = answer.first_chunk_mut::<STEP_ANSWER_SIZE>() else {
-        return too_short(&sign);
+        return too_short(sign.standing());
     };
     match sign.step() {
         Err(no) => no as u32,

@@ -20,6 +20,7 @@ pub enum No {
     Other = 13,
     Unsound = 16,
     Settings = 17,
+    MidForbidden = 19,
     Caret = 21,
     Unknown = 22,
     Number = 23,

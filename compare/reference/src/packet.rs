@@ -1,5 +1,6 @@
 //! The wire: packets and replies, read and written.
-//! Answers to 01, "The packet", and to the numbers 1 to 11 and 31 to 35.
+//! Answers to 01, "The packet", and to the numbers 1 to 11, 19 and 31 to 35. Every call here that takes a sign's MID asks
+//! first whether a sign may have it.
 
 use crate::no::No;
 
@@ -19,6 +20,9 @@ pub const REPLY: usize = 8;
 pub const ID_MOST: u8 = 0x3F;
 pub const ID_QUERY: u8 = 0x40;
 pub const ID_RESET: u8 = 0x41;
+
+/// The MIDs that no sign may have, because its description advises against them.
+pub const FORBIDDEN_MIDS: [u8; 4] = [0x00, 0x01, 0x7E, 0x7F];
 
 const SECOND: u8 = 0x7F;
 const ALONE: u8 = 0x10;
@@ -63,8 +67,14 @@ pub fn can_be_last(id: u8) -> bool {
     id <= ID_MOST || id == ID_RESET
 }
 
+/// Refuses a forbidden MID; it is asked about the MID that the caller gives and never about a byte off the line.
+pub fn check_mid(mid: u8) -> Result<(), No> {
+    if FORBIDDEN_MIDS.contains(&mid) { Err(No::MidForbidden) } else { Ok(()) }
+}
+
 /// What these bytes are to the sign of this MID.
 pub fn read_packet(mid: u8, bytes: &[u8]) -> Result<Packet<'_>, No> {
+    check_mid(mid)?;
     check_frame(mid, bytes)?;
     let (id, fifth, data) = (bytes[3], bytes[4], &bytes[5..bytes.len() - 2]);
     match id {
@@ -124,16 +134,19 @@ fn read_special(fifth: u8, data: &[u8]) -> Result<(), No> {
 
 /// Lays a query at the front of `out` and tells its length.
 pub fn write_query(mid: u8, out: &mut [u8]) -> Result<usize, No> {
+    check_mid(mid)?;
     lay(mid, ID_QUERY, ALONE, &[], out)
 }
 
 /// Lays a reset at the front of `out` and tells its length.
 pub fn write_reset(mid: u8, out: &mut [u8]) -> Result<usize, No> {
+    check_mid(mid)?;
     lay(mid, ID_RESET, ALONE, &[], out)
 }
 
 /// Lays one packet of a body at the front of `out` and tells its length.
 pub fn write_packet(mid: u8, id: u8, body: &[u8], position: u8, out: &mut [u8]) -> Result<usize, No> {
+    check_mid(mid)?;
     let total = packet_total(body)?;
     check_write_id(id)?;
     if position >= total {
@@ -146,6 +159,7 @@ pub fn write_packet(mid: u8, id: u8, body: &[u8], position: u8, out: &mut [u8]) 
 
 /// Lays all packets of a body back to back at the front of `out` and tells their length together.
 pub fn write_transmission(mid: u8, id: u8, body: &[u8], out: &mut [u8]) -> Result<usize, No> {
+    check_mid(mid)?;
     let total = packet_total(body)?;
     check_write_id(id)?;
     let length = body.len() + FRAME * usize::from(total);
@@ -183,6 +197,7 @@ fn lay(mid: u8, id: u8, fifth: u8, data: &[u8], out: &mut [u8]) -> Result<usize,
 
 /// Lays a reply of the sign of this MID at the front of `out` and tells its length.
 pub fn write_reply(mid: u8, reply: Reply, out: &mut [u8]) -> Result<usize, No> {
+    check_mid(mid)?;
     if !can_be_last(reply.last) {
         return Err(No::WriteId);
     }
@@ -196,6 +211,7 @@ pub fn write_reply(mid: u8, reply: Reply, out: &mut [u8]) -> Result<usize, No> {
 
 /// What a reply of the sign of this MID tells.
 pub fn read_reply(mid: u8, bytes: &[u8]) -> Result<Reply, No> {
+    check_mid(mid)?;
     let &[from, SECOND, 8, last, state @ (b'R' | b'B'), aux @ (b'S' | b'F'), 0, _] = bytes else {
         return Err(No::Reply);
     };

@@ -76,7 +76,7 @@ impl Sign {
         Ok(())
     }
 
-    /// Takes bytes off the line.
+    /// Takes bytes off the line; the record is judged first, then the MID, then the bytes.
     pub fn receive(&mut self, mid: u8, bytes: &[u8]) -> Result<Received, No> {
         self.standing()?;
         match read_packet(mid, bytes)? {
@@ -102,7 +102,7 @@ impl Sign {
         Ok(step)
     }
 
-    /// Lays the reply to a query at the front of `out` and tells its length.
+    /// Lays the reply to a query at the front of `out` and tells its length; the record is judged before the MID.
     pub fn reply(&self, mid: u8, aux_sinks: bool, out: &mut [u8]) -> Result<usize, No> {
         self.standing()?;
         write_reply(mid, Reply { last: self.last, busy: self.is_busy(), sink: aux_sinks }, out)
@@ -184,7 +184,7 @@ impl Sign {
 /// Soundness.
 impl Sign {
     /// The command that a sound sign performs next, none if it is Ready.
-    fn standing(&self) -> Result<Option<Command>, No> {
+    pub(crate) fn standing(&self) -> Result<Option<Command>, No> {
         if !can_be_last(self.last) || !self.settings.are_sound() {
             return Err(No::Unsound);
         }

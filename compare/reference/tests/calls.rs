@@ -22,22 +22,22 @@ fn sizes_come_first() {
         let mut image = vec![7; size];
         assert_eq!(calls::power_on(&mut image), 251);
         assert_eq!(calls::reset(&mut image), 251);
-        assert_eq!(calls::receive(&mut image, 0, &[], &mut []), 251);
+        assert_eq!(calls::receive(&mut image, 0x80, &[], &mut []), 251);
         assert_eq!(calls::step(&mut image, &mut []), 251);
-        assert_eq!(calls::reply(&image, 0, 0, &mut []), 251);
+        assert_eq!(calls::reply(&image, 0x80, 0, &mut []), 251);
         assert_eq!(calls::copy_body(&image, &mut []), 251);
         assert_eq!(image, vec![7; size]);
     }
     let mut unsound = [7; IMAGE_SIZE];
-    assert_eq!(calls::receive(&mut unsound, 0, &[], &mut [0; 99]), 16);
-    assert_eq!(calls::receive(&mut unsound, 0, &[], &mut [0; 100]), 16);
+    assert_eq!(calls::receive(&mut unsound, 0x80, &[], &mut [0; 99]), 16);
+    assert_eq!(calls::receive(&mut unsound, 0x80, &[], &mut [0; 100]), 16);
     assert_eq!(calls::step(&mut unsound, &mut [0; 27]), 16);
     assert_eq!(calls::step(&mut unsound, &mut [0; 28]), 16);
     assert_eq!(calls::reset(&mut unsound), 16);
-    assert_eq!(calls::reply(&unsound, 0, 0, &mut []), 16);
+    assert_eq!(calls::reply(&unsound, 0x80, 0, &mut []), 16);
     assert_eq!(calls::copy_body(&unsound, &mut []), 16);
-    assert_eq!(calls::read_packet(0, &[], &mut [0; 19]), 252);
-    assert_eq!(calls::read_reply(0, &[], &mut [0; 11]), 252);
+    assert_eq!(calls::read_packet(0x80, &[], &mut [0; 19]), 252);
+    assert_eq!(calls::read_reply(0x80, &[], &mut [0; 11]), 252);
     for size in 0..24 {
         let mut answer = vec![7; size];
         assert_eq!(calls::forecast(b"^S", 4, 1, &mut answer), 252);
@@ -94,8 +94,8 @@ fn the_repeater_tells_which_in_its_value() {
 }
 
 #[test]
-fn the_version_is_1_1_0() {
-    assert_eq!(calls::version(), 16_842_752);
+fn the_version_is_1_2_0() {
+    assert_eq!(calls::version(), 16_908_288);
 }
 
 #[test]

@@ -1,5 +1,5 @@
-//! The examples on the bench, each as 01 gives it.
-//! Answers to 01, "Examples on the bench".
+//! The examples on the bench, each as 01 gives it, and those that change requests added to the rules.
+//! Answers to 01, "Examples on the bench", and to the tables of examples in docs/RULES.md.
 
 use reference::machine::{Forecast, Totals, forecast};
 use reference::no::{No, Refusal};
@@ -38,6 +38,13 @@ fn a_wrong_sum_is_4() {
     let mut damaged = HI;
     damaged[11] = 0x60;
     assert_eq!(read_packet(0x80, &damaged), Err(No::Sum));
+}
+
+#[test]
+fn a_forbidden_mid_is_19_and_another_signs_packet_5() {
+    let query = [0x7F, 0x7F, 0x07, 0x40, 0x10, 0x00, 0xAB];
+    assert_eq!(read_packet(0x7F, &query), Err(No::MidForbidden));
+    assert_eq!(read_packet(0x80, &query), Err(No::Mid));
 }
 
 #[test]

@@ -20,10 +20,10 @@ fn mend(bytes: &mut [u8]) {
 
 #[test]
 fn the_lowest_number_wins() {
-    assert_eq!(read_packet(0, &[]), Err(No::Under7));
-    assert_eq!(read_packet(0, &[9; 6]), Err(No::Under7));
-    assert_eq!(read_packet(0, &[9; 22]), Err(No::Over21));
-    assert_eq!(read_packet(0, &[9; 21]), Err(No::Count));
+    assert_eq!(read_packet(0x80, &[]), Err(No::Under7));
+    assert_eq!(read_packet(0x80, &[9; 6]), Err(No::Under7));
+    assert_eq!(read_packet(0x80, &[9; 22]), Err(No::Over21));
+    assert_eq!(read_packet(0x80, &[9; 21]), Err(No::Count));
     let good = packet(0x12, 0x10, b"^R", 0);
     let mut bytes = good.clone();
     bytes[3] ^= 1;
@@ -81,21 +81,21 @@ fn what_is_written_reads_back() {
 #[test]
 fn writers_say_no_in_order() {
     let mut out = [0xEE; 126];
-    assert_eq!(write_packet(0, 0x40, &[], 6, &mut out[..0]), Err(No::Body));
-    assert_eq!(write_packet(0, 0x40, b"a", 6, &mut out[..0]), Err(No::WriteId));
-    assert_eq!(write_packet(0, 0x3F, b"a", 1, &mut out[..0]), Err(No::WritePosition));
-    assert_eq!(write_packet(0, 0x3F, b"a", 0, &mut out[..7]), Err(No::OutShort));
-    assert_eq!(write_transmission(0, 0x40, &[0; 85], &mut out[..0]), Err(No::Body));
-    assert_eq!(write_transmission(0, 0x40, &[0; 84], &mut out[..0]), Err(No::WriteId));
-    assert_eq!(write_transmission(0, 0, &[0; 84], &mut out[..125]), Err(No::OutShort));
-    assert_eq!(write_query(0, &mut out[..6]), Err(No::OutShort));
-    assert_eq!(write_reset(0, &mut out[..6]), Err(No::OutShort));
+    assert_eq!(write_packet(0x80, 0x40, &[], 6, &mut out[..0]), Err(No::Body));
+    assert_eq!(write_packet(0x80, 0x40, b"a", 6, &mut out[..0]), Err(No::WriteId));
+    assert_eq!(write_packet(0x80, 0x3F, b"a", 1, &mut out[..0]), Err(No::WritePosition));
+    assert_eq!(write_packet(0x80, 0x3F, b"a", 0, &mut out[..7]), Err(No::OutShort));
+    assert_eq!(write_transmission(0x80, 0x40, &[0; 85], &mut out[..0]), Err(No::Body));
+    assert_eq!(write_transmission(0x80, 0x40, &[0; 84], &mut out[..0]), Err(No::WriteId));
+    assert_eq!(write_transmission(0x80, 0, &[0; 84], &mut out[..125]), Err(No::OutShort));
+    assert_eq!(write_query(0x80, &mut out[..6]), Err(No::OutShort));
+    assert_eq!(write_reset(0x80, &mut out[..6]), Err(No::OutShort));
     let reply = |last| Reply { last, busy: true, sink: true };
-    assert_eq!(write_reply(0, reply(0x40), &mut out[..0]), Err(No::WriteId));
-    assert_eq!(write_reply(0, reply(0x42), &mut out), Err(No::WriteId));
-    assert_eq!(write_reply(0, reply(0x41), &mut out[..7]), Err(No::OutShort));
+    assert_eq!(write_reply(0x80, reply(0x40), &mut out[..0]), Err(No::WriteId));
+    assert_eq!(write_reply(0x80, reply(0x42), &mut out), Err(No::WriteId));
+    assert_eq!(write_reply(0x80, reply(0x41), &mut out[..7]), Err(No::OutShort));
     assert_eq!(out, [0xEE; 126]);
-    assert_eq!(write_transmission(0, 0, &[0; 84], &mut out), Ok(126));
+    assert_eq!(write_transmission(0x80, 0, &[0; 84], &mut out), Ok(126));
 }
 
 #[test]

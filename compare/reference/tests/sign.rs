@@ -125,8 +125,8 @@ fn sound_with(sign: &Sign, change: impl Fn(&mut Sign)) -> bool {
         let kept = changed.clone();
         assert_eq!(changed.step(), Err(No::Unsound));
         assert_eq!(changed.reset(), Err(No::Unsound));
-        assert_eq!(changed.receive(0, &[]), Err(No::Unsound));
-        assert_eq!(changed.reply(0, true, &mut []), Err(No::Unsound));
+        assert_eq!(changed.receive(0x80, &[]), Err(No::Unsound));
+        assert_eq!(changed.reply(0x80, true, &mut []), Err(No::Unsound));
         assert_eq!(changed.copy_body(&mut []), Err(No::Unsound));
         assert_eq!(changed, kept);
     }

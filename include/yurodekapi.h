@@ -65,9 +65,9 @@ static inline uint32_t yd_word(const uint8_t *answer, size_t index)
 YD_USE_RESULT
 uint32_t yd_version(void);
 
-/* Numbers for no. A call says the first that applies: 251 and then 16 if it takes an image, 19 if it takes a MID, 252 if it has an answer,
- * then the rest. A MID is that of the sign, whichever end calls; 0, 1, 7Eh and 7Fh are forbidden, since the sign's description advises
- * against them. */
+/* Numbers for no. A call says the first that applies: 251 and then 16 if it takes an image (yd_power_on: 251 alone), 19 if it takes a MID,
+ * 252 if it has an answer, then the rest. A MID that you give is that of the sign, whichever end calls. 0, 1, 7Eh and 7Fh are forbidden,
+ * because the sign's description advises against them. The MID that you give is judged so, and never a byte of a packet or reply. */
 enum {
     YD_YES = 0,
     YD_NO_UNDER_7 = 1,         /* under 7 bytes */
@@ -179,7 +179,8 @@ enum { YD_AUX_FLOAT = 0, YD_AUX_SINK = 1 };
 YD_USE_RESULT YD_NOT_NULL
 uint32_t yd_write_reply(uint8_t mid, uint8_t last, uint8_t busy, uint8_t aux, uint8_t *out, size_t out_len);
 
-/* What a reply of the sign of this MID tells. The MID is the sign's own; the reply carries it with its lowest bit inverted. No: 19, 252, 35. */
+/* What a reply of the sign of this MID tells. The MID is the sign's own; the reply carries it with its lowest bit inverted.
+ * No: 19, 252, 35. */
 YD_USE_RESULT YD_NOT_NULL
 uint32_t yd_read_reply(uint8_t mid, const uint8_t *bytes, size_t bytes_len, uint8_t *answer, size_t answer_len);
 

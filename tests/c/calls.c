@@ -6,7 +6,7 @@
 
 #include "yurodekapi.h"
 
-/* The sign of all tests, and what lent bytes hold before a call. */
+/* The sign of the tests, but for those about MIDs, and what lent bytes hold before a call. */
 static const uint8_t sign_mid = 0x80;
 static const uint8_t filler = 0xA5;
 

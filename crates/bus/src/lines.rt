@@ -46,7 +46,7 @@ fn line_received(sign: Sign, text: &[u8]) -> Sign {
     heard(sign, &bytes, n)
 }
 
-// The first bytes of a buffer come off the line to a sign that is set to the MID before them.
+// The first byte of a buffer is the MID that the sign is set to, and the others up to n come off the line.
 fn heard_by(sign: Sign, bytes: &[u8], n: usize) -> Sign {
     if n < 1 {
         return sign;

@@ -1,4 +1,4 @@
-// The record in a lent image, and back; and the numbers before 252.
+// The record in a lent image, and back; and 16 or 19 where an answer is too short (N16, N19, N252).
 use image::image_of;
 use image::record_of;
 use packet::forbidden;

@@ -8,7 +8,9 @@ use borrow.Author.Tests.{eq-eqb}
 use Rattle.basis.specs.Choice.{when, _and_}
 use Rattle.basis.proofs.Choices.{when-true, when-false, and-parts}
 use Rattle.reply.specs.Reply.{isLast}
-use Rattle.reader.specs.Read.{readOf}
+use Rattle.packet.specs.Mid.{isForbidden, Allowed}
+use Rattle.reader.specs.Read.{lowestOf, readOf}
+use Rattle.reader.proofs.Guard.{read-stops, read-passes}
 use Rattle.reader.specs.declared.read.Reading.{Reading}
 use Rattle.collect.specs.Slots.{Collection, slotsIn}
 use Rattle.collect.specs.Sound.{nothingOf, soundOf as collectionSound}
@@ -26,6 +28,15 @@ pub framed-hears : (last : ℕ) (c : Collection) (len mid : ℕ) (b : List ℕ) 
     → hearOf last c len mid b ≡ heardOf last c len b (readOf mid b)
 unfolding hearOf
 framed-hears last c len mid b e = when-true (framedBy last c len) (heardOf last c len b (readOf mid b)) (stayOf last c (Refused 16)) e
+
+-- a forbidden MID is 19, and any other is heard by the reader's table
+pub forbidden-hears : (last : ℕ) (c : Collection) (len mid : ℕ) (b : List ℕ) → framedBy last c len ≡ true → isForbidden mid ≡ true
+    → hearOf last c len mid b ≡ stayOf last c (Refused 19)
+forbidden-hears last c len mid b framed e = framed-hears last c len mid b framed ∙ ap (heardOf last c len b) (read-stops mid b e)
+
+pub allowed-hears : (last : ℕ) (c : Collection) (len mid : ℕ) (b : List ℕ) → framedBy last c len ≡ true → Allowed mid
+    → hearOf last c len mid b ≡ heardOf last c len b (lowestOf mid b)
+allowed-hears last c len mid b framed e = framed-hears last c len mid b framed ∙ ap (heardOf last c len b) (read-passes mid b e)
 
 pub unframed-hears : (last : ℕ) (c : Collection) (len mid : ℕ) (b : List ℕ) → framedBy last c len ≡ false → hearOf last c len mid b ≡ stayOf last c (Refused 16)
 unfolding hearOf

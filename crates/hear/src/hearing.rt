@@ -1,5 +1,5 @@
-// Bytes off the line, beside what a sign has collected, in the order of J3: 16, the reader's 1 to 11, then query (J13),
-// reset (J14) and the joining of a normal packet (J4 to J10).
+// Bytes off the line, beside what a sign has collected, in the order of J3: 16, the reader's 19 and 1 to 11, then query
+// (J13), reset (J14) and the joining of a normal packet (J4 to J10).
 use crate::Heard;
 use crate::Outcome;
 use crate::frame::framed;

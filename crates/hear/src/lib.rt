@@ -2,7 +2,7 @@
 // ID, the slots and the room, and of the running program the length alone, 0 when Ready. The crate `sign` has it whole.
 //   frame    last ID, slots and room, sound beside a running body    R2, R4, R5, R7
 //   join     a normal packet judged and joined                       J4 to J10, N12, N13
-//   hearing  bytes read, and joined if they are a normal packet      J3, J13, J14, N16
+//   hearing  bytes read, and joined if they are a normal packet      J3, J13, J14, N16, N19
 mod frame;
 mod hearing;
 mod join;

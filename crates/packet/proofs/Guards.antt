@@ -6,7 +6,7 @@ use mathlib.Core.List.{List, _∷_}
 use mathlib.Core.Bool.{Bool, true, false}
 use Rattle.basis.specs.Rows.{Row, firstOf}
 use Rattle.basis.proofs.Choices.{when-true, when-false}
-use Rattle.packet.specs.Mid.{isForbidden, Allowed, midRow, guardedBy}
+use Rattle.packet.specs.Mid.{isForbidden, Allowed, midRow, midOr}
 use Rattle.packet.specs.Write.{Writes, answerOf, bufferOf}
 use Rattle.packet.specs.declared.write.Written.{Written}
 use Rattle.packet.specs.declared.write.Written.the-variants.{Refused}
@@ -14,15 +14,15 @@ use Rattle.packet.proofs.Writing.{refused}
 
 module _ {A : Type 0} (refused : ℕ → A) (mid : ℕ) (answer : A) where
   -- a reader says 19 of a forbidden MID
-  pub guard-stops : isForbidden mid ≡ true → guardedBy refused mid answer ≡ refused 19
+  pub guard-stops : isForbidden mid ≡ true → midOr refused mid answer ≡ refused 19
   guard-stops e = when-true (isForbidden mid) (refused 19) answer e
 
   -- and with any other MID what it says without the guard
-  pub guard-passes : Allowed mid → guardedBy refused mid answer ≡ answer
+  pub guard-passes : Allowed mid → midOr refused mid answer ≡ answer
   guard-passes e = when-false (isForbidden mid) (refused 19) answer e
 
   -- so an answer that is no 19 passed the guard
-  pub guard-past : (r : A) → guardedBy refused mid answer ≡ r → (r ≡ refused 19 → ⊥) → Allowed mid × (answer ≡ r)
+  pub guard-past : (r : A) → midOr refused mid answer ≡ r → (r ≡ refused 19 → ⊥) → Allowed mid × (answer ≡ r)
   guard-past r e other = go (isForbidden mid) refl
     where
       go : (t : Bool) → isForbidden mid ≡ t → Allowed mid × (answer ≡ r)

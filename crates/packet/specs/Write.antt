@@ -1,4 +1,5 @@
--- Writing: N31 to N34 in the order of W18, and what a writer lays into the lent buffer (W13 and W15 to W17).
+-- Writing: N31 to N34 in the order of W18, where 19 comes first (Mid: `midRow`), and what a writer lays into the lent
+-- buffer (W13 and W15 to W17).
 use Prim.Native.Nat.{ℕ, zero, suc, _+_}
 use mathlib.Core.Path.{_≡_}
 use mathlib.Core.List.{List, [], _∷_}
@@ -26,7 +27,7 @@ rightFields id total position count =
 abbrev pub shortBy : List ℕ → List ℕ → Row
 shortBy bytes out = 34 if ltb (length out) (length bytes)
 
--- the refusals of a writer of one packet
+-- the refusals of a writer of one packet, where its MID is not judged
 abbrev pub packetRows : ℕ → ℕ → List ℕ → ℕ → List ℕ → List Row
 packetRows mid id body position out =
     31 if badBody body
@@ -35,7 +36,7 @@ packetRows mid id body position out =
     ∷ shortBy (packetAt mid id body position) out
     ∷ []
 
--- the refusals of the writer of a whole transmission
+-- the refusals of the writer of a whole transmission, where its MID is not judged
 abbrev pub transmissionRows : ℕ → ℕ → List ℕ → List ℕ → List Row
 transmissionRows mid id body out = 31 if badBody body ∷ 32 if ltb 0x3F id ∷ shortBy (transmissionOf mid id body) out ∷ []
 

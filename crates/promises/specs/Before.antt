@@ -1,5 +1,6 @@
 -- The calls for C that take a MID, as they were in version 1.1, before the guard of C-15: N251, N16 and N252 in the order
--- that N0 had then. They are made of what reading was then, `lowestOf` and `heardFrom`.
+-- that N0 had then. They are made of the definitions that they had; where one of these changes, a copy of it has to stay
+-- here.
 use Prim.Native.Nat.{ℕ}
 use mathlib.Core.Bool.{Bool}
 use mathlib.Core.List.{List, [], _∷_}

@@ -1,18 +1,22 @@
 -- The guard for a sign's own MID (N19, C-15): each call that takes one refuses a forbidden MID, after 16 and before all else,
 -- and with any other MID answers as in version 1.1, which had no guard.
 use Prim.Native.Nat.{ℕ}
-use mathlib.Core.Bool.{Bool, true}
+use mathlib.Core.Bool.{Bool, true, false}
 use mathlib.Core.List.{List, [], _∷_}
 use mathlib.Core.Path.{_≡_}
+use lib.ListN.{length}
+use Rattle.basis.specs.Rows.{Row}
 use Rattle.basis.specs.Told.{no}
-use Rattle.packet.specs.Mid.{isForbidden, Allowed}
+use Rattle.packet.specs.Mid.{isForbidden, Allowed, midRow}
 use Rattle.packet.specs.Wire.{queryOf, resetOf, packetAt, transmissionOf, replyOf}
 use Rattle.packet.specs.Write.{shortBy, packetRows, transmissionRows}
 use Rattle.reader.specs.Read.{lowestOf, toldOf as readTold}
 use Rattle.reply.specs.Reply.{heardFrom, replyRows, toldOf as statusTold}
 use Rattle.sign.specs.Sound.{soundOf}
-use Rattle.sign.specs.Tell.{saysOf, toldRows}
+use Rattle.sign.specs.Tell.{saysOf, toldRows, saysRows}
 use Rattle.sign.specs.declared.Sign.{Sign}
+use Rattle.image.specs.Layout.{recordOf}
+use Rattle.cabi.specs.Calls.{Tells, imageRow, readNo, readAnswer, replyNo, replyAnswer, receiveNo, receiveImage, receiveAnswer}
 use Rattle.promises.specs.Unit.{Wrote, Calls, ours, leftBy, heardIn}
 use Rattle.promises.specs.Record.{stays}
 use Rattle.promises.specs.Before.{receivedBefore}
@@ -33,6 +37,28 @@ pub record Guards {R : Type 0} (u : Calls R) : Type 0 where
   pub receive : (r : R) → soundOf (u .holds r) ≡ true → (mid : ℕ) (b : List ℕ) → isForbidden mid ≡ true → u .receive r mid b ≡ stays r (no 19)
   pub reply : (r : R) → soundOf (u .holds r) ≡ true → (mid : ℕ) (sink : Bool) (out : List ℕ) → isForbidden mid ≡ true → u .reply r mid sink out ≡ denied out
 
+-- the same of the calls for C: 251 and 16 come before 19, and 19 before 252 and all else; image and lent bytes stay
+pub record GuardsForC : Type 0 where
+  pub read-no : (mid : ℕ) (bytes answer : List ℕ) → isForbidden mid ≡ true → readNo mid bytes answer ≡ 19
+  pub read-answer : (mid : ℕ) (bytes answer : List ℕ) → isForbidden mid ≡ true → readAnswer mid bytes answer ≡ answer
+  pub reply-no : (mid : ℕ) (bytes answer : List ℕ) → isForbidden mid ≡ true → replyNo mid bytes answer ≡ 19
+  pub reply-answer : (mid : ℕ) (bytes answer : List ℕ) → isForbidden mid ≡ true → replyAnswer mid bytes answer ≡ answer
+  pub receive-unsized : (image : List ℕ) (mid : ℕ) (bytes answer : List ℕ) → (length image ≡ 102 → ⊥) → receiveNo image mid bytes answer ≡ 251
+  pub receive-unsound : (image : List ℕ) (mid : ℕ) (bytes answer : List ℕ) → length image ≡ 102 → soundOf (recordOf image) ≡ false
+      → receiveNo image mid bytes answer ≡ 16
+  pub receive-no : (image : List ℕ) (mid : ℕ) (bytes answer : List ℕ) → length image ≡ 102 → soundOf (recordOf image) ≡ true → isForbidden mid ≡ true
+      → receiveNo image mid bytes answer ≡ 19
+  pub receive-image : (image : List ℕ) (mid : ℕ) (bytes answer : List ℕ) → isForbidden mid ≡ true → receiveImage image mid bytes answer ≡ image
+  pub receive-answer : (image : List ℕ) (mid : ℕ) (bytes answer : List ℕ) → isForbidden mid ≡ true → receiveAnswer image mid bytes answer ≡ answer
+  pub writes : (mid : ℕ) (rows : List Row) (bytes out : List ℕ) (r : ℕ) (after : List ℕ) → isForbidden mid ≡ true
+      → Tells (midRow mid ∷ rows) bytes out r after
+      → (r ≡ 19) × (after ≡ out)
+  pub replies : (image : List ℕ) (mid : ℕ) (sink : Bool) (out : List ℕ) (r : ℕ) (after : List ℕ) → length image ≡ 102
+      → soundOf (recordOf image) ≡ true
+      → isForbidden mid ≡ true
+      → Tells (imageRow image ∷ saysRows (recordOf image) mid sink out) (saysOf (recordOf image) mid sink) out r after
+      → (r ≡ 19) × (after ≡ out)
+
 -- two units that answer alike to every MID that is not forbidden, in each call that takes one
 pub record Agree (u v : Calls Sign) : Type 0 where
   pub read : (mid : ℕ) (b : List ℕ) → Allowed mid → u .read mid b ≡ v .read mid b
@@ -45,7 +71,8 @@ pub record Agree (u v : Calls Sign) : Type 0 where
   pub receive : (s : Sign) (mid : ℕ) (b : List ℕ) → Allowed mid → u .receive s mid b ≡ v .receive s mid b
   pub reply : (s : Sign) (mid : ℕ) (sink : Bool) (out : List ℕ) → Allowed mid → u .reply s mid sink out ≡ v .reply s mid sink out
 
--- the calls of version 1.1, kept as they were: they take every MID
+-- the calls of version 1.1, which take every MID, made of the definitions that they had; where one of these changes, a copy of it has to
+-- stay here
 abbrev pub unguarded : Calls Sign
 unguarded =
     record {

@@ -1,6 +1,6 @@
 -- The wire: what a packet and a reply are read as, exactly when, and what each writer leaves in any buffer.
 -- Rules W9 and W12 for the readers, W13 and W15 to W18 for the writers, W19 for both together, of every MID that is not
--- forbidden (W8); what a forbidden one is answered stands in Guard.
+-- forbidden (W8). That a forbidden one is 19 is the first row of each writer here, and Guard says it of every call.
 use Prim.Native.Nat.{ℕ, _≤_, _<_}
 use mathlib.Core.Bool.{Bool, true}
 use mathlib.Core.List.{List, [], _∷_}

@@ -3,6 +3,8 @@
 //   specs/Unit      all public calls of a unit, in the rules' numbers, and ours   P13
 //   specs/Dispatch  from dispatch to Ready, in one statement            demands 2 and 3 and the driver's wish together
 //   specs/Safe      no trip                                             demand 1; N0, N16, R1
+//   specs/Guard     a forbidden MID is 19, and with any other every call is that of version 1.1    demand 1; N19
+//   specs/Before    the calls for C of version 1.1                      N19
 //   specs/Wire      what is read, and what is written                   demand 2; W9, W12, W13, W15 to W19
 //   specs/Delivery  a body written, delivered and released              demand 2; J9 to J12
 //   specs/Record    joining, reset, step, reply, copy and the repeater  J2 to J16, S1, S12, S28 to S30

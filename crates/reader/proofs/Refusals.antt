@@ -72,7 +72,7 @@ unfolding replyOf
 eleven m mid last true sink = refl
 eleven m mid last false sink = refl
 
--- so no reply is an accepted packet, for the turned MID or any other
+-- so no reply is an accepted packet, for the turned MID or any other: it is 19 by the guard, or what the table says
 pub no-packet : (m mid last : ℕ) (busy sink : Bool)
     → readOf m (replyOf mid last busy sink) ≡ Refused (firstOf (midRow m ∷ rowsOf m (replyOf mid last busy sink)))
 no-packet m mid last busy sink = go (isForbidden m) refl

@@ -10,7 +10,7 @@ use Rattle.basis.specs.Bytes.{sum}
 use Rattle.basis.specs.Choice.{when, _and_, _or_}
 use Rattle.basis.specs.Told.{Told, yes, no}
 use Rattle.basis.specs.Rows.{Row, _if_, firstOf, applies}
-use Rattle.packet.specs.Mid.{guardedBy}
+use Rattle.packet.specs.Mid.{midOr}
 use Rattle.reader.specs.declared.read.Reading.{Reading}
 use Rattle.reader.specs.declared.read.Reading.the-variants.{Query, Reset, Normal, Refused}
 
@@ -63,7 +63,7 @@ lowestOf mid b = refusedOr (firstOf (rowsOf mid b)) (named (getD b 3 0) (getD b 
 
 -- what a sign reads: 19 for a forbidden MID, a guard that is no row of the table
 unfoldable pub readOf : ℕ → List ℕ → Reading
-readOf mid b = guardedBy Refused mid (lowestOf mid b)
+readOf mid b = midOr Refused mid (lowestOf mid b)
 
 -- a number that applies to these bytes, and no lower one does
 pub record Lowest (mid : ℕ) (b : List ℕ) (k : ℕ) : Type 0 where

@@ -8,7 +8,7 @@ use Rattle.basis.specs.Bytes.{sum}
 use Rattle.basis.specs.Choice.{when, _and_, _or_}
 use Rattle.basis.specs.Rows.{Row, _if_}
 use Rattle.basis.specs.Told.{Told, yes, no, flagOf}
-use Rattle.packet.specs.Mid.{guardedBy}
+use Rattle.packet.specs.Mid.{midOr}
 use Rattle.packet.specs.Wire.{turned, replyOf}
 use Rattle.packet.specs.Write.{shortBy}
 use Rattle.reply.specs.declared.Status.{Status}
@@ -41,7 +41,7 @@ heardFrom mid b = when (isReply mid b) (statusOf (getD b 3 0) (getD b 4 0) (getD
 
 -- what the sender hears: 19 first, for a forbidden MID
 unfoldable pub heardOf : ℕ → List ℕ → Status
-heardOf mid b = guardedBy Refused mid (heardFrom mid b)
+heardOf mid b = midOr Refused mid (heardFrom mid b)
 
 -- the refusals of the reply's writer, where its MID is not judged: an ID that no sign completes, or no room
 abbrev pub replyRows : ℕ → ℕ → Bool → Bool → List ℕ → List Row

@@ -1,4 +1,4 @@
--- Bytes off the line, in the order of J3: 16, the reader's 1 to 11, query (J13), reset (J14), then a normal packet.
+-- Bytes off the line, in the order of J3: 16, the reader's 19 and 1 to 11, query (J13), reset (J14), then a normal packet.
 use Prim.Native.Nat.{ℕ}
 use mathlib.Core.List.{List}
 use Rattle.basis.specs.Choice.{when}

@@ -23,7 +23,7 @@ saysOf s mid aux = replyOf mid (s .last) (busyOf s) aux
 abbrev pub runningBody : Sign → List ℕ
 runningBody s = bodyOf (s .room) (s .run)
 
--- 16, before the other refusals of a call that tells
+-- 16, before the other refusals of a call on a sign
 abbrev pub toldRows : Sign → List Row → List Row
 toldRows s rows = 16 if not (soundOf s) ∷ rows
 

@@ -96,7 +96,7 @@ fn done(sign: Sign, text: &[u8]) -> Sign {
     }
     if what == b'x' {
         let mut ill = sign;
-        ill.last = 0x40;
+        ill.completed.last = 0x40;
         return ill;
     }
     Sign::power_on()

@@ -1,5 +1,6 @@
 // Which collections are sound: rules R4 and R5.
 use crate::Slots;
+use completed::Completed;
 use room::clean;
 ghost use mathlib.Core.Path.{_≡_};
 ghost use lib.ListN.{length, drop};
@@ -102,9 +103,9 @@ impl Slots {
         clean(&lens, 0)
     }
 
-    // Whether the slots are sound with this room, beside this last completed ID.
-    pub fn sound(self, last: u8, room: &[u8; 84]) -> bool
-        ensures { λ r. ⌜ r ≡ soundOf last (collectionOf self (now (room .entry))) ⌝ }
+    // Whether the slots are sound with this room, beside these completed IDs.
+    pub fn sound(self, completed: Completed, room: &[u8; 84]) -> bool
+        ensures { λ r. ⌜ r ≡ soundOf completed (collectionOf self (now (room .entry))) ⌝ }
     {
         let id = self.id;
         let total = self.total;
@@ -118,7 +119,7 @@ impl Slots {
         if 0x3f < id {
             return false;
         }
-        if id == last {
+        if completed.has(id) {
             return false;
         }
         if 6 < total {

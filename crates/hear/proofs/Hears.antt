@@ -7,7 +7,8 @@ use lib.Dec.{eqb}
 use borrow.Author.Tests.{eq-eqb}
 use Rattle.basis.specs.Choice.{when, _and_}
 use Rattle.basis.proofs.Choices.{when-true, when-false, and-parts}
-use Rattle.reply.specs.Reply.{isLast}
+use Rattle.completed.specs.Completed.{soundOf as completedSound}
+use Rattle.completed.specs.declared.Completed.{Completed}
 use Rattle.packet.specs.Mid.{isForbidden, Allowed}
 use Rattle.reader.specs.Read.{lowestOf, readOf}
 use Rattle.reader.proofs.Guard.{read-stops, read-passes}
@@ -20,29 +21,29 @@ use Rattle.hear.specs.Join.{Left, stayOf}
 use Rattle.hear.specs.declared.Outcome.the-variants.{Refused}
 
 -- what is collected beside no body is sound
-pub framed-collection : (last : ℕ) (c : Collection) (len : ℕ) → framedBy last c len ≡ true → len ≡ 0 → collectionSound last c ≡ true
-framed-collection last c len e ready =
-    sym (when-true (eqb len 0) (collectionSound last c) (nothingOf (slotsIn c)) (eq-eqb len 0 ready)) ∙ and-parts (isLast last) _ e .1
+pub framed-collection : (completed : Completed) (c : Collection) (len : ℕ) → framedBy completed c len ≡ true → len ≡ 0 → collectionSound completed c ≡ true
+framed-collection completed c len e ready =
+    sym (when-true (eqb len 0) (collectionSound completed c) (nothingOf (slotsIn c)) (eq-eqb len 0 ready)) ∙ and-parts (completedSound completed) _ e .1
 
-pub framed-hears : (last : ℕ) (c : Collection) (len mid : ℕ) (b : List ℕ) → framedBy last c len ≡ true
-    → hearOf last c len mid b ≡ heardOf last c len b (readOf mid b)
+pub framed-hears : (completed : Completed) (c : Collection) (len mid : ℕ) (b : List ℕ) → framedBy completed c len ≡ true
+    → hearOf completed c len mid b ≡ heardOf completed c len b (readOf mid b)
 unfolding hearOf
-framed-hears last c len mid b e = when-true (framedBy last c len) (heardOf last c len b (readOf mid b)) (stayOf last c (Refused 16)) e
+framed-hears completed c len mid b e = when-true (framedBy completed c len) (heardOf completed c len b (readOf mid b)) (stayOf completed c (Refused 16)) e
 
 -- a forbidden MID is 19, and any other is heard by the reader's table
-pub forbidden-hears : (last : ℕ) (c : Collection) (len mid : ℕ) (b : List ℕ) → framedBy last c len ≡ true → isForbidden mid ≡ true
-    → hearOf last c len mid b ≡ stayOf last c (Refused 19)
-forbidden-hears last c len mid b framed e = framed-hears last c len mid b framed ∙ ap (heardOf last c len b) (read-stops mid b e)
+pub forbidden-hears : (completed : Completed) (c : Collection) (len mid : ℕ) (b : List ℕ) → framedBy completed c len ≡ true → isForbidden mid ≡ true
+    → hearOf completed c len mid b ≡ stayOf completed c (Refused 19)
+forbidden-hears completed c len mid b framed e = framed-hears completed c len mid b framed ∙ ap (heardOf completed c len b) (read-stops mid b e)
 
-pub allowed-hears : (last : ℕ) (c : Collection) (len mid : ℕ) (b : List ℕ) → framedBy last c len ≡ true → Allowed mid
-    → hearOf last c len mid b ≡ heardOf last c len b (lowestOf mid b)
-allowed-hears last c len mid b framed e = framed-hears last c len mid b framed ∙ ap (heardOf last c len b) (read-passes mid b e)
+pub allowed-hears : (completed : Completed) (c : Collection) (len mid : ℕ) (b : List ℕ) → framedBy completed c len ≡ true → Allowed mid
+    → hearOf completed c len mid b ≡ heardOf completed c len b (lowestOf mid b)
+allowed-hears completed c len mid b framed e = framed-hears completed c len mid b framed ∙ ap (heardOf completed c len b) (read-passes mid b e)
 
-pub unframed-hears : (last : ℕ) (c : Collection) (len mid : ℕ) (b : List ℕ) → framedBy last c len ≡ false → hearOf last c len mid b ≡ stayOf last c (Refused 16)
+pub unframed-hears : (completed : Completed) (c : Collection) (len mid : ℕ) (b : List ℕ) → framedBy completed c len ≡ false → hearOf completed c len mid b ≡ stayOf completed c (Refused 16)
 unfolding hearOf
-unframed-hears last c len mid b e = when-false (framedBy last c len) (heardOf last c len b (readOf mid b)) (stayOf last c (Refused 16)) e
+unframed-hears completed c len mid b e = when-false (framedBy completed c len) (heardOf completed c len b (readOf mid b)) (stayOf completed c (Refused 16)) e
 
-pub hears-as : (last : ℕ) (c : Collection) (len mid : ℕ) (b : List ℕ) (x y : Reading) (l : Left) → framedBy last c len ≡ true → x ≡ readOf mid b → x ≡ y
-    → l ≡ heardOf last c len b y
-    → l ≡ hearOf last c len mid b
-hears-as last c len mid b x y l e read told q = q ∙ ap (heardOf last c len b) (sym told ∙ read) ∙ sym (framed-hears last c len mid b e)
+pub hears-as : (completed : Completed) (c : Collection) (len mid : ℕ) (b : List ℕ) (x y : Reading) (l : Left) → framedBy completed c len ≡ true → x ≡ readOf mid b → x ≡ y
+    → l ≡ heardOf completed c len b y
+    → l ≡ hearOf completed c len mid b
+hears-as completed c len mid b x y l e read told q = q ∙ ap (heardOf completed c len b) (sym told ∙ read) ∙ sym (framed-hears completed c len mid b e)

@@ -9,6 +9,8 @@ use lib.ListN.{length, getD, take, drop, replicate, getD-replicate}
 use borrow.Author.Tests.{eq-eqb, ne-eqb}
 use Rattle.basis.specs.Choice.{when}
 use Rattle.basis.proofs.Choices.{when-false}
+use Rattle.completed.specs.Completed.{hasOf}
+use Rattle.completed.specs.declared.Completed.{Completed}
 use Rattle.collect.specs.Slots.{Collection, sameOf, slotsOf, begunOf, storedOf}
 use Rattle.collect.specs.Sound.{soundOf}
 use Rattle.collect.proofs.Sounds.{begun-slots, sound-slots, slots-most}
@@ -23,16 +25,16 @@ into-open c total position len e same right free =
     record { right = subst (λ (n : ℕ). Right n position len) (sym same) right; slots = e; free = free }
 
 -- the collection that a packet goes into has sound slots
-pub taking-slots : (last : ℕ) (d : Collection) (id total : ℕ) (c : Collection) → soundOf last d ≡ true → c ≡ takingOf d id total
+pub taking-slots : (completed : Completed) (d : Collection) (id total : ℕ) (c : Collection) → soundOf completed d ≡ true → c ≡ takingOf d id total
     → slotsOf (c .total) 0 (c .lens) (c .room) ≡ true
 unfolding begunOf
-taking-slots last d id total c e w =
+taking-slots completed d id total c e w =
     subst (λ (x : Collection). slotsOf (x .total) 0 (x .lens) (x .room) ≡ true) (sym w) (go (beginsOf d id))
   where
     go : (t : Bool)
         → slotsOf (when t (begunOf id total) d .total) 0 (when t (begunOf id total) d .lens) (when t (begunOf id total) d .room) ≡ true
     go true = begun-slots id total
-    go false = sound-slots last d e
+    go false = sound-slots completed d e
 
 -- a packet that begins finds its position free
 pub begun-goes : {A : Type 0} (stays : Outcome → A) (counted : Collection → A) (id total position : ℕ) (part : List ℕ) → Right total position (length part)
@@ -43,22 +45,22 @@ begun-goes stays counted id total position part r =
     search (eq-eqb total total refl, eq-eqb (getD (replicate {A = ℕ} 6 0) position 0) 0 free)
 
 -- neither a repeat nor Busy: a packet is joined by what it goes into
-pub join-into : (last : ℕ) (d : Collection) (len id total position : ℕ) (part : List ℕ) (c : Collection) (l : Left) → Right total position (length part)
-    → (id ≡ last → ⊥)
+pub join-into : (completed : Completed) (d : Collection) (len id total position : ℕ) (part : List ℕ) (c : Collection) (l : Left) → Right total position (length part)
+    → hasOf completed id ≡ false
     → len ≡ 0
     → c ≡ takingOf d id total
-    → l ≡ goesBy (stayOf last c) (countOf last) c total position part
-    → l ≡ joinBy (stayOf last d) (countOf last) last d len id total position part
-join-into last d len id total position part c l right other ready ec el =
+    → l ≡ goesBy (stayOf completed c) (countOf completed) c total position part
+    → l ≡ joinBy (stayOf completed d) (countOf completed) completed d len id total position part
+join-into completed d len id total position part c l right other ready ec el =
     el
-    ∙ ap (λ (x : Collection). goesBy (stayOf last x) (countOf last) x total position part) ec
+    ∙ ap (λ (x : Collection). goesBy (stayOf completed x) (countOf completed) x total position part) ec
     ∙ go (beginsOf d id)
-    ∙ sym (when-false (eqb id last) (stayOf last d Repeat) _ (ne-eqb id last other) ∙ when-false (not (eqb len 0)) (stayOf last d (Refused 12)) _ (ap not (eq-eqb len 0 ready)))
+    ∙ sym (when-false (hasOf completed id) (stayOf completed d Repeat) _ other ∙ when-false (not (eqb len 0)) (stayOf completed d (Refused 12)) _ (ap not (eq-eqb len 0 ready)))
   where
     go : (t : Bool)
-        → goesBy (stayOf last (when t (begunOf id total) d)) (countOf last) (when t (begunOf id total) d) total position part
-        ≡ when t (countOf last (storedOf (begunOf id total) position part)) (goesBy (stayOf last d) (countOf last) d total position part)
-    go true = begun-goes (stayOf last (begunOf id total)) (countOf last) id total position part right
+        → goesBy (stayOf completed (when t (begunOf id total) d)) (countOf completed) (when t (begunOf id total) d) total position part
+        ≡ when t (countOf completed (storedOf (begunOf id total) position part)) (goesBy (stayOf completed d) (countOf completed) d total position part)
+    go true = begun-goes (stayOf completed (begunOf id total)) (countOf completed) id total position part right
     go false = refl
 
 -- what is held at a position has at most 14 bytes

@@ -16,6 +16,8 @@ use Rattle.basis.proofs.Laid.{take-laid}
 use Rattle.judge.specs.Verdict.{judgeOf}
 use Rattle.judge.specs.declared.Verdict.{Verdict}
 use Rattle.room.specs.Room.{roomOf}
+use Rattle.completed.specs.Completed.{addedOf}
+use Rattle.completed.specs.declared.Completed.{Completed}
 use Rattle.collect.specs.Slots.{Collection, ruleOf, heldOf, slotsOf, joinedOf, begunOf, storedOf}
 use Rattle.collect.proofs.Joined.{held-most, full-room}
 use Rattle.collect.proofs.Kept.{slots-kept}
@@ -69,17 +71,17 @@ stored-is c position part x e =
     ap (λ (y : List ℕ). record { id = c .id; total = c .total; lens = set (c .lens) position (length part); room = y }) e
 
 -- not all are held: Stored; all are held: Released
-pub counted-less : (last : ℕ) (n c : Collection) (l : Left) → n ≡ c → heldOf (n .lens) < n .total → l ≡ stayOf last n Stored → l ≡ countOf last c
-counted-less last n c l e h q =
+pub counted-less : (completed : Completed) (n c : Collection) (l : Left) → n ≡ c → heldOf (n .lens) < n .total → l ≡ stayOf completed n Stored → l ≡ countOf completed c
+counted-less completed n c l e h q =
     q
-    ∙ sym (when-false (leb (n .total) (heldOf (n .lens))) (wholeOf n) (stayOf last n Stored) (lt-leb (n .total) (heldOf (n .lens)) h))
-    ∙ ap (countOf last) e
+    ∙ sym (when-false (leb (n .total) (heldOf (n .lens))) (wholeOf completed n) (stayOf completed n Stored) (lt-leb (n .total) (heldOf (n .lens)) h))
+    ∙ ap (countOf completed) e
 
-pub counted-full : (last : ℕ) (n c : Collection) (l : Left) → n ≡ c → n .total ≤ heldOf (n .lens) → l ≡ wholeOf n → l ≡ countOf last c
-counted-full last n c l e h q =
+pub counted-full : (completed : Completed) (n c : Collection) (l : Left) → n ≡ c → n .total ≤ heldOf (n .lens) → l ≡ wholeOf completed n → l ≡ countOf completed c
+counted-full completed n c l e h q =
     q
-    ∙ sym (when-true (leb (n .total) (heldOf (n .lens))) (wholeOf n) (stayOf last n Stored) (le-leb (n .total) (heldOf (n .lens)) h))
-    ∙ ap (countOf last) e
+    ∙ sym (when-true (leb (n .total) (heldOf (n .lens))) (wholeOf completed n) (stayOf completed n Stored) (le-leb (n .total) (heldOf (n .lens)) h))
+    ∙ ap (countOf completed) e
 
 -- of a whole collection the room is the body with zeros after it
 module _ (c : Collection) (lens : length (c .lens) ≡ 6) (room : length (c .room) ≡ 84) (w : Whole c) where
@@ -106,11 +108,11 @@ module _ (c : Collection) (lens : length (c .lens) ≡ 6) (room : length (c .roo
       ∙ take-laid (joinedOf (c .lens) (c .room)) (replicate 84 0)
 
 -- what the code leaves of it
-pub whole-left : (c : Collection) (v : Verdict) (len : ℕ) → roomOf (joinedOf (c .lens) (c .room)) ≡ c .room
+pub whole-left : (completed : Completed) (c : Collection) (v : Verdict) (len : ℕ) → roomOf (joinedOf (c .lens) (c .room)) ≡ c .room
     → v ≡ judgeOf (joinedOf (c .lens) (c .room))
     → len ≡ length (joinedOf (c .lens) (c .room))
-    → _≡_ {A = Left} (record { outcome = Released v; last = c .id; collection = record { id = 0; total = 0; lens = replicate 6 0; room = c .room }; len = len }) (wholeOf c)
-whole-left c v len er ev el =
-    ap (λ (x : List ℕ). record { outcome = Released v; last = c .id; collection = record { id = 0; total = 0; lens = replicate 6 0; room = x }; len = len }) (sym er)
-    ∙ ap (λ (x : Verdict). record { outcome = Released x; last = c .id; collection = bodyIn (joinedOf (c .lens) (c .room)); len = len }) ev
-    ∙ ap (λ (n : ℕ). record { outcome = Released (judgeOf (joinedOf (c .lens) (c .room))); last = c .id; collection = bodyIn (joinedOf (c .lens) (c .room)); len = n }) el
+    → _≡_ {A = Left} (record { outcome = Released v; completed = addedOf completed (c .id); collection = record { id = 0; total = 0; lens = replicate 6 0; room = c .room }; len = len }) (wholeOf completed c)
+whole-left completed c v len er ev el =
+    ap (λ (x : List ℕ). record { outcome = Released v; completed = addedOf completed (c .id); collection = record { id = 0; total = 0; lens = replicate 6 0; room = x }; len = len }) (sym er)
+    ∙ ap (λ (x : Verdict). record { outcome = Released x; completed = addedOf completed (c .id); collection = bodyIn (joinedOf (c .lens) (c .room)); len = len }) ev
+    ∙ ap (λ (n : ℕ). record { outcome = Released (judgeOf (joinedOf (c .lens) (c .room))); completed = addedOf completed (c .id); collection = bodyIn (joinedOf (c .lens) (c .room)); len = n }) el

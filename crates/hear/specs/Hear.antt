@@ -8,6 +8,7 @@ use Rattle.judge.specs.Verdict.{toldOf as verdictTold}
 use Rattle.reader.specs.Read.{readOf}
 use Rattle.reader.specs.declared.read.Reading.{Reading}
 use Rattle.reader.specs.declared.read.Reading.the-variants.{Query as QueryRead, Reset as ResetRead, Normal, Refused as Unread}
+use Rattle.completed.specs.declared.Completed.{Completed}
 use Rattle.collect.specs.Slots.{Collection}
 use Rattle.hear.specs.Frame.{framedBy}
 use Rattle.hear.specs.Join.{Left, joinBy, stayOf, resetLeft, countOf}
@@ -22,11 +23,11 @@ readBy stays reset joined b (Normal id total position len) = joined id total pos
 readBy stays reset joined b (Unread n) = stays (Refused n)
 
 -- what was read, where the frame is sound
-abbrev pub heardOf : ℕ → Collection → ℕ → List ℕ → Reading → Left
-heardOf last c len b read = readBy (stayOf last c) resetLeft (joinBy (stayOf last c) (countOf last) last c len) b read
+abbrev pub heardOf : Completed → Collection → ℕ → List ℕ → Reading → Left
+heardOf completed c len b read = readBy (stayOf completed c) resetLeft (joinBy (stayOf completed c) (countOf completed) completed c len) b read
 
-unfoldable pub hearOf : ℕ → Collection → ℕ → ℕ → List ℕ → Left
-hearOf last c len mid b = when (framedBy last c len) (heardOf last c len b (readOf mid b)) (stayOf last c (Refused 16))
+unfoldable pub hearOf : Completed → Collection → ℕ → ℕ → List ℕ → Left
+hearOf completed c len mid b = when (framedBy completed c len) (heardOf completed c len b (readOf mid b)) (stayOf completed c (Refused 16))
 
 -- the outcome in the rules' numbers: which of the five it is, and for Released the refusal of its program and its place
 -- (J12), 0 where it is accepted

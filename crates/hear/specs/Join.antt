@@ -10,6 +10,8 @@ use lib.ListN.{length, getD, take, drop, replicate}
 use Rattle.basis.specs.Choice.{when, _or_}
 use Rattle.judge.specs.Verdict.{judgeOf}
 use Rattle.room.specs.Room.{roomOf}
+use Rattle.completed.specs.Completed.{noneOf as noCompleted, hasOf, addedOf}
+use Rattle.completed.specs.declared.Completed.{Completed}
 use Rattle.collect.specs.Slots.{Collection, collectionOf, heldOf, slotsOf, joinedOf, sameOf, begunOf, noneOf, storedOf}
 use Rattle.hear.specs.declared.Heard.{Heard}
 use Rattle.hear.specs.declared.Outcome.{Outcome}
@@ -38,47 +40,47 @@ beginsOf c id = eqb (c .total) 0 or not (eqb (c .id) id)
 abbrev pub takingOf : Collection → ℕ → ℕ → Collection
 takingOf c id total = when (beginsOf c id) (begunOf id total) c
 
--- the last completed ID: Repeat; Busy: 12; another ID begins; the same goes on
-abbrev pub joinBy : {A : Type 0} → (stays : Outcome → A) → (counted : Collection → A) → (last : ℕ) → Collection → (len id total position : ℕ) → List ℕ → A
-joinBy stays counted last c len id total position part =
-    when (eqb id last) (stays Repeat)
+-- a completed ID: Repeat; Busy: 12; another ID begins; the same goes on
+abbrev pub joinBy : {A : Type 0} → (stays : Outcome → A) → (counted : Collection → A) → Completed → Collection → (len id total position : ℕ) → List ℕ → A
+joinBy stays counted completed c len id total position part =
+    when (hasOf completed id) (stays Repeat)
     (when (not (eqb len 0)) (stays (Refused 12))
     (when (beginsOf c id) (counted (storedOf (begunOf id total) position part)) (goesBy stays counted c total position part)))
 
--- what bytes leave: the outcome, the last completed ID, what is collected with its room, and the length of a body released
+-- what bytes leave: the outcome, the completed IDs, what is collected with its room, and the length of a body released
 pub record Left : Type 0 where
   pub outcome : Outcome
-  pub last : ℕ
+  pub completed : Completed
   pub collection : Collection
   pub len : ℕ
 
 -- an answer and the room as it was left
 abbrev pub leftOf : Heard → List ℕ → Left
-leftOf h room = record { outcome = h .outcome; last = h .last; collection = collectionOf (h .slots) room; len = h .len }
+leftOf h room = record { outcome = h .outcome; completed = h .completed; collection = collectionOf (h .slots) room; len = h .len }
 
 -- nothing changes
-abbrev pub stayOf : ℕ → Collection → Outcome → Left
-stayOf last c outcome = record { outcome = outcome; last = last; collection = c; len = 0 }
+abbrev pub stayOf : Completed → Collection → Outcome → Left
+stayOf completed c outcome = record { outcome = outcome; completed = completed; collection = c; len = 0 }
 
--- a reset: nothing is collected, and the last ID is 41h
+-- a reset: nothing is collected, and no ID is completed
 abbrev pub resetLeft : Left
-resetLeft = record { outcome = Reset; last = 0x41; collection = noneOf; len = 0 }
+resetLeft = record { outcome = Reset; completed = noCompleted; collection = noneOf; len = 0 }
 
 -- no slot is held, and the room holds a body
 abbrev pub bodyIn : List ℕ → Collection
 bodyIn body = record { id = 0; total = 0; lens = replicate 6 0; room = roomOf body }
 
--- Released: this body is judged, its ID is last completed, and nothing is being collected
-abbrev pub releasedOf : ℕ → List ℕ → Left
-releasedOf id body = record { outcome = Released (judgeOf body); last = id; collection = bodyIn body; len = length body }
+-- Released: this body is judged, its ID is completed, and nothing is being collected
+abbrev pub releasedOf : Completed → ℕ → List ℕ → Left
+releasedOf completed id body = record { outcome = Released (judgeOf body); completed = addedOf completed id; collection = bodyIn body; len = length body }
 
 -- the data joined by position is the body
-abbrev pub wholeOf : Collection → Left
-wholeOf c = releasedOf (c .id) (joinedOf (c .lens) (c .room))
+abbrev pub wholeOf : Completed → Collection → Left
+wholeOf completed c = releasedOf completed (c .id) (joinedOf (c .lens) (c .room))
 
 -- Released if all N are held, otherwise Stored
-abbrev pub countOf : ℕ → Collection → Left
-countOf last c = countBy (λ (d : Collection). stayOf last d Stored) wholeOf c
+abbrev pub countOf : Completed → Collection → Left
+countOf completed c = countBy (λ (d : Collection). stayOf completed d Stored) (wholeOf completed) c
 
 -- what the reader lets pass: N 1 to 6, position below N, 1 to 14 data bytes, and 14 before the last
 pub record Right (total position len : ℕ) : Type 0 where

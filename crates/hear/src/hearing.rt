@@ -7,6 +7,8 @@ use crate::join::join;
 use crate::join::stays;
 use collect::Slots;
 use collect::begun;
+use completed::Completed;
+use completed::none;
 use reader::Reading;
 use reader::read_packet;
 ghost use mathlib.Core.Path.{_≡_};
@@ -14,29 +16,36 @@ ghost use Rattle.collect.specs.Slots.{collectionOf};
 ghost use Rattle.hear.specs.Join.{leftOf, resetLeft};
 ghost use Rattle.hear.specs.Hear.{hearOf};
 
-// A reset leaves nothing collected, and the last ID 41h.
+// A reset leaves nothing collected, and no completed ID.
 fn cleared(room: &mut [u8; 84]) -> Heard
     ensures { λ r. ⌜ leftOf r (now (room .exit)) ≡ resetLeft ⌝ }
 {
     *room = [0; 84];
     Heard {
         outcome: Outcome::Reset,
-        last: 0x41,
+        completed: none(),
         slots: begun(0, 0),
         len: 0,
     }
 }
 
-// What the bytes are, and what they leave of last ID, slots and room; 16 where these are not sound beside a running body's length.
-pub fn hear(last: u8, slots: Slots, len: usize, room: &mut [u8; 84], mid: u8, bytes: &[u8]) -> Heard
-    ensures { λ r. ⌜ leftOf r (now (room .exit)) ≡ hearOf last (collectionOf slots (now (room .entry))) len mid (now (bytes .entry)) ⌝ }
+// What the bytes are, and what they leave of completed IDs, slots and room; 16 where these are not sound beside a running body's length.
+pub fn hear(
+    completed: Completed,
+    slots: Slots,
+    len: usize,
+    room: &mut [u8; 84],
+    mid: u8,
+    bytes: &[u8],
+) -> Heard
+    ensures { λ r. ⌜ leftOf r (now (room .exit)) ≡ hearOf completed (collectionOf slots (now (room .entry))) len mid (now (bytes .entry)) ⌝ }
 {
-    if !framed(last, slots, room, len) {
-        return stays(last, slots, Outcome::Refused(16));
+    if !framed(completed, slots, room, len) {
+        return stays(completed, slots, Outcome::Refused(16));
     }
     let read = read_packet(mid, bytes);
     match read {
-        Reading::Query => stays(last, slots, Outcome::Query),
+        Reading::Query => stays(completed, slots, Outcome::Query),
         Reading::Reset => cleared(room),
         Reading::Normal {
             id,
@@ -46,7 +55,7 @@ pub fn hear(last: u8, slots: Slots, len: usize, room: &mut [u8; 84], mid: u8, by
         } => {
             let end = 5 + size;
             join(
-                last,
+                completed,
                 slots,
                 len,
                 room,
@@ -56,6 +65,6 @@ pub fn hear(last: u8, slots: Slots, len: usize, room: &mut [u8; 84], mid: u8, by
                 &bytes[5..end],
             )
         }
-        Reading::Refused(n) => stays(last, slots, Outcome::Refused(n)),
+        Reading::Refused(n) => stays(completed, slots, Outcome::Refused(n)),
     }
 }

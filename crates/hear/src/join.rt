@@ -1,4 +1,4 @@
-// A normal packet judged in the order of J3 and joined: Repeat of the last ID (J4), 12 (J5), a new collection (J6), 13
+// A normal packet judged in the order of J3 and joined: Repeat of a completed ID (J4), 12 (J5), a new collection (J6), 13
 // for another N (J7), a position already held (J8), Stored (J9), Released (J10).
 use crate::Heard;
 use crate::Outcome;
@@ -6,6 +6,7 @@ use collect::Slots;
 use collect::begun;
 use collect::held;
 use collect::same;
+use completed::Completed;
 use judge::judge;
 ghost use mathlib.Core.Path.{_≡_};
 ghost use mathlib.Core.Bool.{true};
@@ -18,21 +19,21 @@ ghost use Rattle.collect.specs.Sound.{soundOf};
 ghost use Rattle.hear.specs.Join.{leftOf, stayOf, wholeOf, countOf, goesBy, takingOf, joinBy, Right, Open, Whole};
 
 // Nothing changes.
-pub(crate) fn stays(last: u8, slots: Slots, outcome: Outcome) -> Heard
-    ensures { λ r. ⌜ r ≡ record { outcome = outcome; last = last; slots = slots; len = 0 } ⌝ }
+pub(crate) fn stays(completed: Completed, slots: Slots, outcome: Outcome) -> Heard
+    ensures { λ r. ⌜ r ≡ record { outcome = outcome; completed = completed; slots = slots; len = 0 } ⌝ }
 {
     Heard {
         outcome,
-        last,
+        completed,
         slots,
         len: 0,
     }
 }
 
 // All packets are held: the body is released.
-fn released(slots: Slots, room: &[u8]) -> Heard
+fn released(completed: Completed, slots: Slots, room: &[u8]) -> Heard
     requires { ⌜ Whole (collectionOf slots (now room)) × (length (now room) ≡ 84) ⌝ }
-    ensures { λ r. ⌜ leftOf r (now (room .entry)) ≡ wholeOf (collectionOf slots (now (room .entry))) ⌝ }
+    ensures { λ r. ⌜ leftOf r (now (room .entry)) ≡ wholeOf completed (collectionOf slots (now (room .entry))) ⌝ }
 {
     let lens = slots.lens;
     let at = slots.total as usize - 1;
@@ -40,7 +41,7 @@ fn released(slots: Slots, room: &[u8]) -> Heard
     let verdict = judge(&room[..len]);
     Heard {
         outcome: Outcome::Released(verdict),
-        last: slots.id,
+        completed: completed.with(slots.id),
         slots: begun(0, 0),
         len,
     }
@@ -57,18 +58,24 @@ fn fill(room: &mut [u8], position: usize, part: &[u8])
 }
 
 // The data take their free position.
-fn placed(last: u8, slots: Slots, room: &mut [u8; 84], position: usize, part: &[u8]) -> Heard
+fn placed(
+    completed: Completed,
+    slots: Slots,
+    room: &mut [u8; 84],
+    position: usize,
+    part: &[u8],
+) -> Heard
     requires { ⌜ Open (collectionOf slots (now room)) position (length (now part)) ⌝ }
-    ensures { λ r. ⌜ leftOf r (now (room .exit)) ≡ countOf last (storedOf (collectionOf slots (now (room .entry))) position (now (part .entry))) ⌝ }
+    ensures { λ r. ⌜ leftOf r (now (room .exit)) ≡ countOf completed (storedOf (collectionOf slots (now (room .entry))) position (now (part .entry))) ⌝ }
 {
     let mut next = slots;
     next.lens[position] = part.len() as u8;
     fill(room, position, part);
     let lens = next.lens;
     if held(lens) < next.total as usize {
-        return stays(last, next, Outcome::Stored);
+        return stays(completed, next, Outcome::Stored);
     }
-    released(next, room)
+    released(completed, next, room)
 }
 
 // The slots that a packet of this ID goes into: new ones, where none is collected or another ID is, with zeros in the room.
@@ -98,7 +105,7 @@ fn holds(room: &[u8], position: usize, len: u8, part: &[u8]) -> bool
 
 // A packet goes into these slots.
 fn goes_into(
-    last: u8,
+    completed: Completed,
     slots: Slots,
     room: &mut [u8; 84],
     total: u8,
@@ -106,25 +113,25 @@ fn goes_into(
     part: &[u8],
 ) -> Heard
     requires { ⌜ (slotsOf (slots .total) 0 (slots .lens) (now room) ≡ true) × Right total position (length (now part)) ⌝ }
-    ensures { λ r. ⌜ leftOf r (now (room .exit)) ≡ goesBy (stayOf last (collectionOf slots (now (room .entry)))) (countOf last) (collectionOf slots (now (room .entry))) total position (now (part .entry)) ⌝ }
+    ensures { λ r. ⌜ leftOf r (now (room .exit)) ≡ goesBy (stayOf completed (collectionOf slots (now (room .entry)))) (countOf completed) (collectionOf slots (now (room .entry))) total position (now (part .entry)) ⌝ }
 {
     let lens = slots.lens;
     if slots.total != total {
-        return stays(last, slots, Outcome::Refused(13));
+        return stays(completed, slots, Outcome::Refused(13));
     }
     let len = lens[position];
     if len == 0 {
-        return placed(last, slots, room, position, part);
+        return placed(completed, slots, room, position, part);
     }
     if holds(room, position, len, part) {
-        return stays(last, slots, Outcome::Repeat);
+        return stays(completed, slots, Outcome::Repeat);
     }
-    stays(last, slots, Outcome::Refused(13))
+    stays(completed, slots, Outcome::Refused(13))
 }
 
-// A normal packet of a right length and place, beside a last completed ID, and sound slots where no body is running.
+// A normal packet of a right length and place, beside completed IDs, and sound slots where no body is running.
 pub(crate) fn join(
-    last: u8,
+    completed: Completed,
     slots: Slots,
     len: usize,
     room: &mut [u8; 84],
@@ -133,15 +140,15 @@ pub(crate) fn join(
     position: usize,
     part: &[u8],
 ) -> Heard
-    requires { ⌜ (len ≡ 0 → soundOf last (collectionOf slots (now room)) ≡ true) × Right total position (length (now part)) ⌝ }
-    ensures { λ r. ⌜ leftOf r (now (room .exit)) ≡ joinBy (stayOf last (collectionOf slots (now (room .entry)))) (countOf last) last (collectionOf slots (now (room .entry))) len id total position (now (part .entry)) ⌝ }
+    requires { ⌜ (len ≡ 0 → soundOf completed (collectionOf slots (now room)) ≡ true) × Right total position (length (now part)) ⌝ }
+    ensures { λ r. ⌜ leftOf r (now (room .exit)) ≡ joinBy (stayOf completed (collectionOf slots (now (room .entry)))) (countOf completed) completed (collectionOf slots (now (room .entry))) len id total position (now (part .entry)) ⌝ }
 {
-    if id == last {
-        return stays(last, slots, Outcome::Repeat);
+    if completed.has(id) {
+        return stays(completed, slots, Outcome::Repeat);
     }
     if len != 0 {
-        return stays(last, slots, Outcome::Refused(12));
+        return stays(completed, slots, Outcome::Refused(12));
     }
     let into = taking(slots, room, id, total);
-    goes_into(last, into, room, total, position, part)
+    goes_into(completed, into, room, total, position, part)
 }

@@ -1,6 +1,6 @@
-// What bytes off the line make of the packets that a sign has collected (J3). Of the record it has the last completed
-// ID, the slots and the room, and of the running program the length alone, 0 when Ready. The crate `sign` has it whole.
-//   frame    last ID, slots and room, sound beside a running body    R2, R4, R5, R7
+// What bytes off the line make of the packets that a sign has collected (J3). Of the record it has the completed
+// IDs, the slots and the room, and of the running program the length alone, 0 when Ready. The crate `sign` has it whole.
+//   frame    completed IDs, slots and room, sound beside a body      R2, R4, R5, R7
 //   join     a normal packet judged and joined                       J4 to J10, N12, N13
 //   hearing  bytes read, and joined if they are a normal packet      J3, J13, J14, N16, N19
 mod frame;
@@ -8,6 +8,7 @@ mod hearing;
 mod join;
 
 use collect::Slots;
+use completed::Completed;
 pub use frame::framed;
 pub use hearing::hear;
 use judge::Verdict;
@@ -23,10 +24,10 @@ pub enum Outcome {
     Refused(u8),
 }
 
-// The outcome, with the last completed ID and the slots as they are after it. Of a body released `len` is the length.
+// The outcome, with the completed IDs and the slots as they are after it. Of a body released `len` is the length.
 pub struct Heard {
     pub outcome: Outcome,
-    pub last: u8,
+    pub completed: Completed,
     pub slots: Slots,
     pub len: usize,
 }

@@ -61,7 +61,7 @@ fields : (s : Sign) (x y : List ℕ) (len place behind left pace scans sink dim 
     → bright ≡ s .run .settings .bright
     → _≡_ {A = Sign}
     (record {
-      last = s .last;
+      completed = s .completed;
       slots = record { id = s .slots .id; total = s .slots .total; lens = x };
       room = y;
       run =

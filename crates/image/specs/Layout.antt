@@ -17,7 +17,7 @@ runBytes r = r .len % 256 ∷ r .place % 256 ∷ r .inner .place % 256 ∷ r .in
 
 -- last ID; collected ID, packet total, 6 lengths; 84 bytes of room; the run
 unfoldable pub imageOf : Sign → List ℕ
-imageOf s = s .last ∷ s .slots .id ∷ s .slots .total ∷ (s .slots .lens ++ (s .room ++ runBytes (s .run)))
+imageOf s = s .completed .last ∷ s .slots .id ∷ s .slots .total ∷ (s .slots .lens ++ (s .room ++ runBytes (s .run)))
 
 -- the run in an image, field by field from the same places
 abbrev pub runIn : List ℕ → Run
@@ -33,7 +33,7 @@ runIn b =
 unfoldable pub recordOf : List ℕ → Sign
 recordOf b =
     record {
-      last = getD b 0 0;
+      completed = record { last = getD b 0 0 };
       slots = record { id = getD b 1 0; total = getD b 2 0; lens = take 6 (drop 3 b) };
       room = take 84 (drop 9 b);
       run = runIn b;

@@ -1,5 +1,6 @@
 // A record to its image, and any image to its record: bytes at fixed places, as include/yurodekapi.h names them.
 use collect::Slots;
+use completed::Completed;
 use machine::Loop;
 use machine::Run;
 use perform::Settings;
@@ -18,6 +19,7 @@ pub fn record_of(image: [u8; 102]) -> Sign
     let len = image[93] as usize;
     let place = image[94] as usize;
     let behind = image[95] as usize;
+    let completed = Completed { last: image[0] };
     let slots = Slots {
         id: image[1],
         total: image[2],
@@ -41,7 +43,7 @@ pub fn record_of(image: [u8; 102]) -> Sign
         settings,
     };
     Sign {
-        last: image[0],
+        completed,
         slots,
         room,
         run,
@@ -52,13 +54,14 @@ pub fn record_of(image: [u8; 102]) -> Sign
 pub fn image_of(sign: Sign) -> [u8; 102]
     ensures { λ r. ⌜ r ≡ imageOf sign ⌝ }
 {
+    let completed = sign.completed;
     let slots = sign.slots;
     let lens = slots.lens;
     let room = sign.room;
     let run = sign.run;
     let settings = run.settings;
     let mut image = [0; 102];
-    image[0] = sign.last;
+    image[0] = completed.last;
     image[1] = slots.id;
     image[2] = slots.total;
     image[93] = (run.len % 256) as u8;

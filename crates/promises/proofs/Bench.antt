@@ -17,6 +17,7 @@ use Rattle.judge.specs.declared.Verdict.the-variants.{Finite}
 use Rattle.course.specs.Price.{sumBy, scans, millis}
 use Rattle.course.specs.Tree.{treeIn, exitOf}
 use Rattle.machine.specs.Line.{lineOf}
+use Rattle.completed.specs.Completed.{noneOf as noCompleted, lastOf}
 use Rattle.machine.specs.Step.{readyOf}
 use Rattle.totals.specs.Totals.{totalsOf}
 use Rattle.reckon.specs.Forecast.{settingsAt, forecastOf}
@@ -36,7 +37,7 @@ foretold : (b : List ℕ) → judgeOf b ≡ Finite → soundOf at4 ≡ true
 foretold b e set = forecast-holds b at4 set e
 
 pub all-starred : All starred
-unfolding sum packetOf replyOf isForbidden lowestOf readOf commandAt judgeOf answerOf soundOf readyOf freshOf
+unfolding sum packetOf replyOf isForbidden lowestOf readOf commandAt judgeOf answerOf soundOf noCompleted lastOf readyOf freshOf
 all-starred = (
   refl,
   (

@@ -17,6 +17,9 @@ use Rattle.packet.specs.Write.{transmissionRows, answerOf, bufferOf, toldOf as 
 use Rattle.packet.proofs.Parts.{transmission-length}
 use Rattle.packet.proofs.Stands.{at-length, packet-stands, count-stands}
 use Rattle.hear.specs.Hear.{toldOf as outcomeTold}
+use Rattle.completed.specs.Completed.{hasOf, addedOf}
+use Rattle.completed.specs.declared.Completed.{Completed}
+use Rattle.completed.proofs.Laws.{has-added}
 use Rattle.hear.specs.declared.Outcome.the-variants.{Repeat}
 use Rattle.sign.specs.Join.{staysOf}
 use Rattle.sign.specs.Receive.{receiveOf}
@@ -134,15 +137,15 @@ module _ (mid id : ℕ) (body out : List ℕ) (w : Written mid id body out) wher
       ∙ ap (λ (b : List ℕ). heardIn (receiveOf (afterPackets s mid id body p) mid b)) (packet-in p below)
 
   -- a copy of one of them, to a sign that has the number as last
-  pub copy-is : (s : Sign) → Good s → s .last ≡ id → (p : ℕ) → p < totalOf body
+  pub copy-is : (s : Sign) → Good s → hasOf (s .completed) id ≡ true → (p : ℕ) → p < totalOf body
       → ours .receive s mid (packetIn buffer p) ≡ stays s (outcomeTold Repeat)
   unfolding staysOf
-  copy-is s good last p below =
+  copy-is s good has p below =
       ap (λ (b : List ℕ). heardIn (receiveOf s mid b)) (packet-in p below)
       ∙ ap heardIn
       (copy-repeats s good mid (packetAt mid id body p) id (totalOf body) p (length (partOf body p))
       (body-reads mid id body p (w .allowed) (w .known) (w .some) (w .most) below)
-      (sym last))
+      has)
 
 module _ (s : Sign) (good : Good s) (mid id : ℕ) (body out : List ℕ) (w : Written mid id body out) (awaits : Awaits s id) where
   abbrev found : List ℕ
@@ -165,8 +168,11 @@ module _ (s : Sign) (good : Good s) (mid id : ℕ) (body out : List ℕ) (w : Wr
   pub behind-good : Good (behind ours s mid found (totalOf body))
   behind-good = subst Good (sym (behind-is mid id body out w s (totalOf body) (omega arith))) (packets-good s good mid id body (totalOf body))
 
-  pub behind-last : behind ours s mid found (totalOf body) .last ≡ id
-  behind-last = ap (λ (t : Sign). t .last) all-behind ∙ d .last final last-is
+  pub behind-completed : behind ours s mid found (totalOf body) .completed ≡ addedOf (s .completed) id
+  behind-completed = ap (λ (t : Sign). t .completed) all-behind ∙ d .completed final last-is
+
+  pub behind-has : hasOf (behind ours s mid found (totalOf body) .completed) id ≡ true
+  behind-has = ap (λ (d : Completed). hasOf d id) behind-completed ∙ has-added (s .completed) id
 
   pub gets : Gets ours s mid id body found
   unfolding staysOf
@@ -177,13 +183,13 @@ module _ (s : Sign) (good : Good s) (mid id : ℕ) (body out : List ℕ) (w : Wr
         nothing = λ p more. ap (λ (h : Heard Sign). h .body) (at p (omega arith)) ∙ ap (λ (r : Received). heardIn r .body) (d .stored p more);
         released = λ p e. ap (λ (h : Heard Sign). h .told) (at p (omega arith)) ∙ ap outcomeTold (d .released p e);
         same = λ p e. ap (λ (h : Heard Sign). h .body) (at p (omega arith)) ∙ d .same p e;
-        last = behind-last;
+        completed = behind-completed;
         none = ap (λ (t : Sign). t .slots) all-behind ∙ d .none final last-is;
         holds = λ endless e. ap (λ (t : Sign). t .room) all-behind ∙ d .holds final last-is endless e;
         runs = λ endless e. ap (λ (t : Sign). t .run) all-behind ∙ d .runs final last-is endless e;
         empty = λ n place e. ap (λ (t : Sign). t .room) all-behind ∙ d .empty final last-is n place e;
         rests = λ n place e. ap (λ (t : Sign). t .run) all-behind ∙ d .rests final last-is n place e;
-        repeats = λ p below. copy-is mid id body out w (behind ours s mid found (totalOf body)) behind-good behind-last p below;
+        repeats = λ p below. copy-is mid id body out w (behind ours s mid found (totalOf body)) behind-good behind-has p below;
       }
 
 pub ours-delivers : Delivers ours

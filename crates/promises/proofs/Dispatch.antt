@@ -19,6 +19,8 @@ use Rattle.reckon.specs.Forecast.{toldOf as forecastTold}
 use Rattle.reckon.specs.declared.reckon.Foretold.the-variants.{Ends, Endless as Never}
 use Rattle.totals.specs.Totals.{totalsOf}
 use Rattle.machine.specs.Line.{lineOf, roundsOf}
+use Rattle.completed.specs.Completed.{hasOf}
+use Rattle.completed.specs.declared.Completed.{Completed}
 use Rattle.sign.specs.declared.Sign.{Sign}
 use Rattle.service.specs.Delivery.{Awaits}
 use Rattle.service.specs.Driver.{step, stepsIn}
@@ -30,7 +32,7 @@ use Rattle.promises.specs.Delivery.{packetIn, behind}
 use Rattle.promises.specs.Line.{toldOfAll, thenStep, after, Started, Runs}
 use Rattle.promises.specs.Dispatch.{sumAt, AllYes, Repeated, Arrives, GoesOn, DispatchToReady}
 use Rattle.promises.proofs.Tellings.{finite-told, endless-told}
-use Rattle.promises.proofs.Delivery.{Written, written, gets, behind-good, behind-last, copy-is}
+use Rattle.promises.proofs.Delivery.{Written, written, gets, behind-good, behind-has, copy-is}
 use Rattle.promises.proofs.Line.{after-is, started-set, runs, goes, ours-runs}
 use Rattle.promises.proofs.Record.{ours-steps}
 
@@ -78,8 +80,8 @@ module _ (s : Sign) (good : Good s) (mid id : ℕ) (body out : List ℕ) (endles
   set = started-set t body σ started
 
   -- a record that still has the number as last takes a copy for a Repeat
-  copied : (x : Sign) → Good x → x .last ≡ t .last → (p : ℕ) → p < totalOf body → Repeated ours x mid (packetIn found p)
-  copied x g e p below = copy-is mid id body out w x g (e ∙ behind-last s good mid id body out w awaits) p below
+  copied : (x : Sign) → Good x → x .completed ≡ t .completed → (p : ℕ) → p < totalOf body → Repeated ours x mid (packetIn found p)
+  copied x g e p below = copy-is mid id body out w x g (ap (λ (d : Completed). hasOf d id) e ∙ behind-has s good mid id body out w awaits) p below
 
 module _ (s : Sign) (good : Good s) (mid id : ℕ) (body out : List ℕ) (e : judgeOf body ≡ Finite) (w : Written mid id body out) (awaits : Awaits s id) where
   abbrev line : List Performed
@@ -125,17 +127,17 @@ module _ (s : Sign) (good : Good s) (mid id : ℕ) (body out : List ℕ) (e : ju
         copies = λ es quiet before p below.
             let k = quiet-keeps mid es it body (s .run .settings) (begun .good) (begun .room) (begun .run) legal e quiet (omega (arith, steps)) in
             copied s good mid id body out false e w awaits (after ours mid es it) (subst Good (sym (after-is mid es it)) (k .0))
-            (ap (λ (x : Sign). x .last) (after-is mid es it) ∙ k .1)
+            (ap (λ (x : Sign). x .completed) (after-is mid es it) ∙ k .1)
             p
             below;
         copies-then = λ es quiet all k p below.
             let h = quiet-keeps-then mid es it body (s .run .settings) (begun .good) (begun .room) (begun .run) legal e quiet (omega (arith, steps)) in
             let x = after ours mid (thenStep es) it in
             let g : Good x = subst Good (sym (after-is mid (thenStep es) it)) (h .0) in
-            let last : x .last ≡ it .last = ap (λ (y : Sign). y .last) (after-is mid (thenStep es) it) ∙ h .1 in
+            let completed : x .completed ≡ it .completed = ap (λ (y : Sign). y .completed) (after-is mid (thenStep es) it) ∙ h .1 in
             subst (λ (y : Sign). Repeated ours y mid (packetIn (ours .transmit mid id body out .buffer) p))
             (sym (rests mid k x g (on .ready es quiet (all ∙ steps))))
-            (copied s good mid id body out false e w awaits x g last p below);
+            (copied s good mid id body out false e w awaits x g completed p below);
       }
 
 module _ (s : Sign) (good : Good s) (mid id : ℕ) (body out : List ℕ) (e : judgeOf body ≡ Endless) (w : Written mid id body out) (awaits : Awaits s id) where
@@ -162,7 +164,7 @@ module _ (s : Sign) (good : Good s) (mid id : ℕ) (body out : List ℕ) (e : ju
         copies = λ es quiet p below.
             let k = endless-keeps mid es at body (s .run .settings) (begins .good) (begins .room) (begins .run) sound e quiet in
             copied s good mid id body out true e w awaits (after ours mid es at) (subst Good (sym (after-is mid es at)) (k .0))
-            (ap (λ (x : Sign). x .last) (after-is mid es at) ∙ k .1)
+            (ap (λ (x : Sign). x .completed) (after-is mid es at) ∙ k .1)
             p
             below;
       }

@@ -30,9 +30,6 @@ use Rattle.reply.proofs.read_reply.Reads as reply-read-reply-reads
 use Rattle.reply.proofs.write_reply as reply-write-reply
 use Rattle.reply.proofs.write_reply.Kinds as reply-write-reply-kinds
 use Rattle.reply.proofs.write_reply.Reads as reply-write-reply-reads
-use Rattle.reply.proofs.is_last as reply-is-last
-use Rattle.reply.proofs.is_last.Kinds as reply-is-last-kinds
-use Rattle.reply.proofs.is_last.Reads as reply-is-last-reads
 use Rattle.packet.proofs.forbidden as packet-forbidden
 use Rattle.packet.proofs.forbidden.Kinds as packet-forbidden-kinds
 use Rattle.packet.proofs.forbidden.Reads as packet-forbidden-reads
@@ -177,6 +174,21 @@ use Rattle.sign.proofs.Sign.reply.Reads as sign-Sign-reply-reads
 use Rattle.sign.proofs.Sign.copy_body as sign-Sign-copy-body
 use Rattle.sign.proofs.Sign.copy_body.Kinds as sign-Sign-copy-body-kinds
 use Rattle.sign.proofs.Sign.copy_body.Reads as sign-Sign-copy-body-reads
+use Rattle.completed.proofs.none as completed-none
+use Rattle.completed.proofs.none.Kinds as completed-none-kinds
+use Rattle.completed.proofs.none.Reads as completed-none-reads
+use Rattle.completed.proofs.Completed.last as completed-Completed-last
+use Rattle.completed.proofs.Completed.last.Kinds as completed-Completed-last-kinds
+use Rattle.completed.proofs.Completed.last.Reads as completed-Completed-last-reads
+use Rattle.completed.proofs.Completed.has as completed-Completed-has
+use Rattle.completed.proofs.Completed.has.Kinds as completed-Completed-has-kinds
+use Rattle.completed.proofs.Completed.has.Reads as completed-Completed-has-reads
+use Rattle.completed.proofs.Completed.with as completed-Completed-with
+use Rattle.completed.proofs.Completed.with.Kinds as completed-Completed-with-kinds
+use Rattle.completed.proofs.Completed.with.Reads as completed-Completed-with-reads
+use Rattle.completed.proofs.Completed.sound as completed-Completed-sound
+use Rattle.completed.proofs.Completed.sound.Kinds as completed-Completed-sound-kinds
+use Rattle.completed.proofs.Completed.sound.Reads as completed-Completed-sound-reads
 use Rattle.collect.proofs.same as collect-same
 use Rattle.collect.proofs.same.Kinds as collect-same-kinds
 use Rattle.collect.proofs.same.Reads as collect-same-reads
@@ -238,10 +250,6 @@ pub one-reply-write-reply : (κs : Lifetimes.Lfts 1) (a : World.ArgsD reply-writ
     (s s′ : Clauses.AtExit (K.endedOf 1 reply-write-reply-kinds.ps reply-write-reply-kinds.r) κs) → reply-write-reply-reads.Post κs a r s → reply-write-reply-reads.Post κs a r′ s′
     → (r ≡ r′) × (now (s .1 .1 .1 .1 .0) ≡ now (s′ .1 .1 .1 .1 .0))
 one-reply-write-reply κs a r r′ s s′ h h′ = (one (h .answered) (h′ .answered), one (h .left) (h′ .left))
-
-pub one-reply-is-last : (κs : Lifetimes.Lfts 0) (a : World.ArgsD reply-is-last.signature κs) (r r′ : World.ResD reply-is-last.signature κs)
-    (s s′ : Clauses.AtExit (K.endedOf 0 reply-is-last-kinds.ps reply-is-last-kinds.r) κs) → reply-is-last-reads.Post κs a r s → reply-is-last-reads.Post κs a r′ s′ → r ≡ r′
-one-reply-is-last κs a r r′ s s′ h h′ = one h h′
 
 pub one-packet-forbidden : (κs : Lifetimes.Lfts 0) (a : World.ArgsD packet-forbidden.signature κs) (r r′ : World.ResD packet-forbidden.signature κs)
     (s s′ : Clauses.AtExit (K.endedOf 0 packet-forbidden-kinds.ps packet-forbidden-kinds.r) κs) → packet-forbidden-reads.Post κs a r s → packet-forbidden-reads.Post κs a r′ s′ → r ≡ r′
@@ -440,6 +448,26 @@ pub one-sign-Sign-copy-body : (κs : Lifetimes.Lfts 1) (a : World.ArgsD sign-Sig
     → (r ≡ r′) × (now (s .1 .0) ≡ now (s′ .1 .0))
 one-sign-Sign-copy-body κs a r r′ s s′ h h′ = (one (h .answered) (h′ .answered), one (h .left) (h′ .left))
 
+pub one-completed-none : (κs : Lifetimes.Lfts 0) (a : World.ArgsD completed-none.signature κs) (r r′ : World.ResD completed-none.signature κs)
+    (s s′ : Clauses.AtExit (K.endedOf 0 completed-none-kinds.ps completed-none-kinds.r) κs) → completed-none-reads.Post κs a r s → completed-none-reads.Post κs a r′ s′ → r ≡ r′
+one-completed-none κs a r r′ s s′ h h′ = one h h′
+
+pub one-completed-Completed-last : (κs : Lifetimes.Lfts 0) (a : World.ArgsD completed-Completed-last.signature κs) (r r′ : World.ResD completed-Completed-last.signature κs)
+    (s s′ : Clauses.AtExit (K.endedOf 0 completed-Completed-last-kinds.ps completed-Completed-last-kinds.r) κs) → completed-Completed-last-reads.Post κs a r s → completed-Completed-last-reads.Post κs a r′ s′ → r ≡ r′
+one-completed-Completed-last κs a r r′ s s′ h h′ = one h h′
+
+pub one-completed-Completed-has : (κs : Lifetimes.Lfts 0) (a : World.ArgsD completed-Completed-has.signature κs) (r r′ : World.ResD completed-Completed-has.signature κs)
+    (s s′ : Clauses.AtExit (K.endedOf 0 completed-Completed-has-kinds.ps completed-Completed-has-kinds.r) κs) → completed-Completed-has-reads.Post κs a r s → completed-Completed-has-reads.Post κs a r′ s′ → r ≡ r′
+one-completed-Completed-has κs a r r′ s s′ h h′ = one h h′
+
+pub one-completed-Completed-with : (κs : Lifetimes.Lfts 0) (a : World.ArgsD completed-Completed-with.signature κs) (r r′ : World.ResD completed-Completed-with.signature κs)
+    (s s′ : Clauses.AtExit (K.endedOf 0 completed-Completed-with-kinds.ps completed-Completed-with-kinds.r) κs) → completed-Completed-with-reads.Post κs a r s → completed-Completed-with-reads.Post κs a r′ s′ → r ≡ r′
+one-completed-Completed-with κs a r r′ s s′ h h′ = one h h′
+
+pub one-completed-Completed-sound : (κs : Lifetimes.Lfts 0) (a : World.ArgsD completed-Completed-sound.signature κs) (r r′ : World.ResD completed-Completed-sound.signature κs)
+    (s s′ : Clauses.AtExit (K.endedOf 0 completed-Completed-sound-kinds.ps completed-Completed-sound-kinds.r) κs) → completed-Completed-sound-reads.Post κs a r s → completed-Completed-sound-reads.Post κs a r′ s′ → r ≡ r′
+one-completed-Completed-sound κs a r r′ s s′ h h′ = one h h′
+
 pub one-collect-same : (κs : Lifetimes.Lfts 2) (a : World.ArgsD collect-same.signature κs) (r r′ : World.ResD collect-same.signature κs)
     (s s′ : Clauses.AtExit (K.endedOf 2 collect-same-kinds.ps collect-same-kinds.r) κs) → collect-same-reads.Post κs a r s → collect-same-reads.Post κs a r′ s′ → r ≡ r′
 one-collect-same κs a r r′ s s′ h h′ = one h h′
@@ -450,7 +478,7 @@ one-hear-framed κs a r r′ s s′ h h′ = one h h′
 
 -- what is heard and the room that it leaves are told by what is left
 heardIn : Left → Heard
-heardIn l = record { outcome = l .outcome; last = l .last; slots = slotsIn (l .collection); len = l .len }
+heardIn l = record { outcome = l .outcome; completed = l .completed; slots = slotsIn (l .collection); len = l .len }
 
 pub one-hear-hear : (κs : Lifetimes.Lfts 2) (a : World.ArgsD hear-hear.signature κs) (r r′ : World.ResD hear-hear.signature κs)
     (s s′ : Clauses.AtExit (K.endedOf 2 hear-hear-kinds.ps hear-hear-kinds.r) κs) → hear-hear-reads.Post κs a r s → hear-hear-reads.Post κs a r′ s′

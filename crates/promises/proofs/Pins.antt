@@ -33,6 +33,7 @@ use Rattle.grammar.proofs.Refusals.{refused-first}
 use Rattle.perform.specs.Settings.{soundOf as settingsSound}
 use Rattle.reckon.specs.Forecast.{settingsAt, outOfRange}
 use Rattle.reckon.proofs.Forecasts.{settings-sound}
+use Rattle.completed.specs.Completed.{hasOf}
 use Rattle.collect.specs.Slots.{sameOf}
 use Rattle.collect.proofs.Equal.{same-equal, equal-same}
 use Rattle.hear.specs.Join.{beginsOf, slotOf}
@@ -179,7 +180,7 @@ module _ {R : Type 0} (u : Calls R) (k : Keeps u) where
     joins-same : (mid : ℕ) (b : List ℕ) (id total position len : ℕ) → readOf mid b ≡ Normal id total position len
         → SameHeard u (u .receive r mid b) (ours .receive s mid b)
     joins-same mid b id total position len e =
-        go (eqb id (s .last)) (eqb (s .run .len) 0) (beginsOf (collectedOf s) id) (eqb (s .slots .total) total) (eqb (getD (s .slots .lens) position 0) 0)
+        go (hasOf (s .completed) id) (eqb (s .run .len) 0) (beginsOf (collectedOf s) id) (eqb (s .slots .total) total) (eqb (getD (s .slots .lens) position 0) 0)
         (sameOf (slotOf (collectedOf s) position) part)
         refl
         refl
@@ -197,47 +198,40 @@ module _ {R : Type 0} (u : Calls R) (k : Keeps u) where
         o : Joins ours s mid b id total position part
         o = ours-obeys .joins s good mid b id total position len e
 
-        go : (t v w x y z : Bool) → eqb id (s .last) ≡ t → eqb (s .run .len) 0 ≡ v → beginsOf (collectedOf s) id ≡ w → eqb (s .slots .total) total ≡ x
+        go : (t v w x y z : Bool) → hasOf (s .completed) id ≡ t → eqb (s .run .len) 0 ≡ v → beginsOf (collectedOf s) id ≡ w → eqb (s .slots .total) total ≡ x
             → eqb (getD (s .slots .lens) position 0) 0 ≡ y
             → sameOf (slotOf (collectedOf s) position) part ≡ z
             → SameHeard u (u .receive r mid b) (ours .receive s mid b)
         go true v w x y z a c d f g h =
-            let same = eqb-true id (s .last) a in
-            stays-same u r _ _ (j .repeats same) _ (o .repeats same)
+            stays-same u r _ _ (j .repeats a) _ (o .repeats a)
         go false false w x y z a c d f g h =
-            let other = eqb-false id (s .last) a in
             let busy = eqb-false (s .run .len) 0 c in
-            stays-same u r _ _ (j .waits other busy) _ (o .waits other busy)
+            stays-same u r _ _ (j .waits a busy) _ (o .waits a busy)
         go false true true x y z a c d f g h =
-            let other = eqb-false id (s .last) a in
             let ready = eqb-true (s .run .len) 0 c in
-            heeds-same u _ _ _ (j .begins other ready d) (o .begins other ready d)
+            heeds-same u _ _ _ (j .begins a ready d) (o .begins a ready d)
         go false true false false y z a c d f g h =
-            let other = eqb-false id (s .last) a in
             let ready = eqb-true (s .run .len) 0 c in
             let apart = eqb-false (s .slots .total) total f in
-            stays-same u r _ _ (j .other-total other ready d apart) _ (o .other-total other ready d apart)
+            stays-same u r _ _ (j .other-total a ready d apart) _ (o .other-total a ready d apart)
         go false true false true true z a c d f g h =
-            let other = eqb-false id (s .last) a in
             let ready = eqb-true (s .run .len) 0 c in
             let one = eqb-true (s .slots .total) total f in
             let free = eqb-true (getD (s .slots .lens) position 0) 0 g in
-            heeds-same u _ _ _ (j .goes-in other ready d one free) (o .goes-in other ready d one free)
+            heeds-same u _ _ _ (j .goes-in a ready d one free) (o .goes-in a ready d one free)
         go false true false true false true a c d f g h =
-            let other = eqb-false id (s .last) a in
             let ready = eqb-true (s .run .len) 0 c in
             let one = eqb-true (s .slots .total) total f in
             let held = eqb-false (getD (s .slots .lens) position 0) 0 g in
             let same = same-equal (slotOf (collectedOf s) position) part h in
-            stays-same u r _ _ (j .again other ready d one held same) _ (o .again other ready d one held same)
+            stays-same u r _ _ (j .again a ready d one held same) _ (o .again a ready d one held same)
         go false true false true false false a c d f g h =
-            let other = eqb-false id (s .last) a in
             let ready = eqb-true (s .run .len) 0 c in
             let one = eqb-true (s .slots .total) total f in
             let held = eqb-false (getD (s .slots .lens) position 0) 0 g in
             let apart : slotOf (collectedOf s) position ≡ part → ⊥ =
             λ q. let n : false ≡ true = sym h ∙ ap (λ (x : List ℕ). sameOf x part) q ∙ equal-same part in let z0 : _≡_ {A = ℕ} 0 1 = cc in omega arith in
-            stays-same u r _ _ (j .differs other ready d one held apart) _ (o .differs other ready d one held apart)
+            stays-same u r _ _ (j .differs a ready d one held apart) _ (o .differs a ready d one held apart)
 
     sound-receive : (mid : ℕ) (b : List ℕ) → SameHeard u (u .receive r mid b) (ours .receive s mid b)
     sound-receive mid b = go (readOf mid b) refl

@@ -20,6 +20,7 @@ use Rattle.reader.specs.declared.read.Reading.the-variants.{Refused as Unread}
 use Rattle.reader.proofs.Refusals.{refused-lowest}
 use Rattle.reply.specs.Reply.{isLast, heardFrom, heardOf}
 use Rattle.course.specs.Steps.{settle}
+use Rattle.completed.specs.Completed.{noneOf as noCompleted, lastOf, hasOf, addedOf, soundOf as completedSound}
 use Rattle.collect.specs.Slots.{slotsOf, heldOf, joinedOf, sameOf, begunOf, storedOf}
 use Rattle.collect.specs.Sound.{soundOf as collectionSound}
 use Rattle.room.specs.Room.{roomOf}
@@ -52,11 +53,11 @@ usual = settingsAt 4 1
 
 -- a sign that stands at the first command of a body
 shows : List ℕ → Sign
-shows b = signOf 5 (bodyIn b) (startedOf (length b) (startSettings 16 0))
+shows b = signOf (addedOf noCompleted 5) (bodyIn b) (startedOf (length b) (startSettings 16 0))
 
 -- its rooms have their sizes
 roomy-on : Roomy powerOn
-unfolding freshOf readyOf begunOf
+unfolding noCompleted lastOf hasOf addedOf completedSound freshOf readyOf begunOf
 roomy-on = record { lens = refl; room = refl }
 
 roomy-w5 : Roomy (shows w5)
@@ -179,27 +180,27 @@ at-once-fails k =
     omega arith
 
 pub fixed-fails : Keeps fixed → ⊥
-unfolding freshOf readyOf startedOf clearedOf stepOf runStep settle answerOf receiveOf joinOf releaseOf staysOf soundOf runSound collectionSound judgeOf commandAt settingsSound roomOf slotsOf heldOf joinedOf sameOf begunOf storedOf standOf laid sum packetOf partOf packetsOf replyOf isForbidden lowestOf readOf heardFrom heardOf repeatOf
+unfolding noCompleted lastOf hasOf addedOf completedSound freshOf readyOf startedOf clearedOf stepOf runStep settle answerOf receiveOf joinOf releaseOf staysOf soundOf runSound collectionSound judgeOf commandAt settingsSound roomOf slotsOf heldOf joinedOf sameOf begunOf storedOf standOf laid sum packetOf partOf packetsOf replyOf isForbidden lowestOf readOf heardFrom heardOf repeatOf
 fixed-fails k =
     let n : _≡_ {A = ℕ} 1 3 = ap length (no-other-unit fixed k .receive powerOn roomy-on 0x80 (packetAt 0x80 5 w5 0) .body) in
     omega arith
 
 pub starting-over-fails : Keeps startingOver → ⊥
-unfolding shows freshOf readyOf startedOf clearedOf stepOf runStep settle answerOf receiveOf joinOf releaseOf staysOf soundOf runSound collectionSound judgeOf commandAt settingsSound roomOf slotsOf heldOf joinedOf sameOf begunOf storedOf standOf laid sum packetOf partOf packetsOf replyOf isForbidden lowestOf readOf heardFrom heardOf repeatOf
+unfolding shows noCompleted lastOf hasOf addedOf completedSound freshOf readyOf startedOf clearedOf stepOf runStep settle answerOf receiveOf joinOf releaseOf staysOf soundOf runSound collectionSound judgeOf commandAt settingsSound roomOf slotsOf heldOf joinedOf sameOf begunOf storedOf standOf laid sum packetOf partOf packetsOf replyOf isForbidden lowestOf readOf heardFrom heardOf repeatOf
 starting-over-fails k =
     let n : _≡_ {A = ℕ} 0 3 = ap (λ (s : Sign). s .run .len) (no-other-unit startingOver k .receive (shows w5) roomy-w5 0x80 [] .next) in
     omega arith
 
 pub shaken-fails : Keeps shaken → ⊥
-unfolding shows freshOf readyOf startedOf clearedOf stepOf runStep settle answerOf receiveOf joinOf releaseOf staysOf soundOf runSound collectionSound judgeOf commandAt settingsSound roomOf slotsOf heldOf joinedOf sameOf begunOf storedOf standOf laid sum packetOf partOf packetsOf replyOf isForbidden lowestOf readOf heardFrom heardOf repeatOf
+unfolding shows noCompleted lastOf hasOf addedOf completedSound freshOf readyOf startedOf clearedOf stepOf runStep settle answerOf receiveOf joinOf releaseOf staysOf soundOf runSound collectionSound judgeOf commandAt settingsSound roomOf slotsOf heldOf joinedOf sameOf begunOf storedOf standOf laid sum packetOf partOf packetsOf replyOf isForbidden lowestOf readOf heardFrom heardOf repeatOf
 shaken-fails k =
     let n : _≡_ {A = ℕ} 0 3 = ap (λ (s : Sign). s .run .len) (no-other-unit shaken k .receive (shows w5) roomy-w5 0x80 [] .next) in
     omega arith
 
 pub forgetful-fails : Keeps forgetful → ⊥
-unfolding freshOf readyOf startedOf clearedOf stepOf runStep settle answerOf receiveOf joinOf releaseOf staysOf soundOf runSound collectionSound judgeOf commandAt settingsSound roomOf slotsOf heldOf joinedOf sameOf begunOf storedOf standOf laid sum packetOf partOf packetsOf replyOf isForbidden lowestOf readOf heardFrom heardOf repeatOf
+unfolding noCompleted lastOf hasOf addedOf completedSound freshOf readyOf startedOf clearedOf stepOf runStep settle answerOf receiveOf joinOf releaseOf staysOf soundOf runSound collectionSound judgeOf commandAt settingsSound roomOf slotsOf heldOf joinedOf sameOf begunOf storedOf standOf laid sum packetOf partOf packetsOf replyOf isForbidden lowestOf readOf heardFrom heardOf repeatOf
 forgetful-fails k =
-    let n : _≡_ {A = ℕ} 0x41 5 = ap (λ (s : Sign). s .last) (no-other-unit forgetful k .receive powerOn roomy-on 0x80 (packetAt 0x80 5 w5 0) .next) in
+    let n : _≡_ {A = ℕ} 0x41 5 = ap (λ (s : Sign). lastOf (s .completed)) (no-other-unit forgetful k .receive powerOn roomy-on 0x80 (packetAt 0x80 5 w5 0) .next) in
     omega arith
 
 -- a body of two packets, and one that differs in its first byte
@@ -211,65 +212,65 @@ collecting : Sign
 collecting = ours .receive powerOn 0x80 (packetAt 0x80 5 (long 0x5E) 0) .next
 
 roomy-collecting : Roomy collecting
-unfolding collecting long freshOf readyOf startedOf clearedOf stepOf runStep settle answerOf receiveOf joinOf releaseOf staysOf soundOf runSound collectionSound judgeOf commandAt settingsSound roomOf slotsOf heldOf joinedOf sameOf begunOf storedOf standOf laid sum packetOf partOf packetsOf replyOf isForbidden lowestOf readOf heardFrom heardOf repeatOf
+unfolding collecting long noCompleted lastOf hasOf addedOf completedSound freshOf readyOf startedOf clearedOf stepOf runStep settle answerOf receiveOf joinOf releaseOf staysOf soundOf runSound collectionSound judgeOf commandAt settingsSound roomOf slotsOf heldOf joinedOf sameOf begunOf storedOf standOf laid sum packetOf partOf packetsOf replyOf isForbidden lowestOf readOf heardFrom heardOf repeatOf
 roomy-collecting = record { lens = refl; room = refl }
 
 pub agreeable-fails : Keeps agreeable → ⊥
-unfolding collecting long freshOf readyOf startedOf clearedOf stepOf runStep settle answerOf receiveOf joinOf releaseOf staysOf soundOf runSound collectionSound judgeOf commandAt settingsSound roomOf slotsOf heldOf joinedOf sameOf begunOf storedOf standOf laid sum packetOf partOf packetsOf replyOf isForbidden lowestOf readOf heardFrom heardOf repeatOf
+unfolding collecting long noCompleted lastOf hasOf addedOf completedSound freshOf readyOf startedOf clearedOf stepOf runStep settle answerOf receiveOf joinOf releaseOf staysOf soundOf runSound collectionSound judgeOf commandAt settingsSound roomOf slotsOf heldOf joinedOf sameOf begunOf storedOf standOf laid sum packetOf partOf packetsOf replyOf isForbidden lowestOf readOf heardFrom heardOf repeatOf
 agreeable-fails k =
     let n : _≡_ {A = ℕ} 0 13 = ap (λ (t : Told). t .number) (no-other-unit agreeable k .receive collecting roomy-collecting 0x80 (packetAt 0x80 5 (long 0x5F) 0) .told) in
     omega arith
 
 pub deaf-fails : Keeps deaf → ⊥
-unfolding freshOf readyOf startedOf clearedOf stepOf runStep settle answerOf receiveOf joinOf releaseOf staysOf soundOf runSound collectionSound judgeOf commandAt settingsSound roomOf slotsOf heldOf joinedOf sameOf begunOf storedOf standOf laid sum packetOf partOf packetsOf replyOf isForbidden lowestOf readOf heardFrom heardOf repeatOf
+unfolding noCompleted lastOf hasOf addedOf completedSound freshOf readyOf startedOf clearedOf stepOf runStep settle answerOf receiveOf joinOf releaseOf staysOf soundOf runSound collectionSound judgeOf commandAt settingsSound roomOf slotsOf heldOf joinedOf sameOf begunOf storedOf standOf laid sum packetOf partOf packetsOf replyOf isForbidden lowestOf readOf heardFrom heardOf repeatOf
 deaf-fails k =
     let n : _≡_ {A = ℕ} 0 5 = ap (λ (t : Told). t .number) (no-other-unit deaf k .receive powerOn roomy-on 0x81 (packetAt 0x80 5 w5 0) .told) in
     omega arith
 
 pub misset-fails : Keeps misset → ⊥
-unfolding freshOf readyOf startedOf clearedOf stepOf runStep settle answerOf receiveOf joinOf releaseOf staysOf soundOf runSound collectionSound judgeOf commandAt settingsSound roomOf slotsOf heldOf joinedOf sameOf begunOf storedOf standOf laid sum packetOf partOf packetsOf replyOf isForbidden lowestOf readOf heardFrom heardOf repeatOf
+unfolding noCompleted lastOf hasOf addedOf completedSound freshOf readyOf startedOf clearedOf stepOf runStep settle answerOf receiveOf joinOf releaseOf staysOf soundOf runSound collectionSound judgeOf commandAt settingsSound roomOf slotsOf heldOf joinedOf sameOf begunOf storedOf standOf laid sum packetOf partOf packetsOf replyOf isForbidden lowestOf readOf heardFrom heardOf repeatOf
 misset-fails k =
     let n : _≡_ {A = ℕ} 19 5 = ap (λ (t : Told). t .number) (no-other-unit misset k .receive powerOn roomy-on 0x80 query7F .told) in
     omega arith
 
 pub wary-fails : Keeps wary → ⊥
-unfolding freshOf readyOf startedOf clearedOf stepOf runStep settle answerOf receiveOf joinOf releaseOf staysOf soundOf runSound collectionSound judgeOf commandAt settingsSound roomOf slotsOf heldOf joinedOf sameOf begunOf storedOf standOf laid sum packetOf partOf packetsOf replyOf isForbidden lowestOf readOf heardFrom heardOf repeatOf
+unfolding noCompleted lastOf hasOf addedOf completedSound freshOf readyOf startedOf clearedOf stepOf runStep settle answerOf receiveOf joinOf releaseOf staysOf soundOf runSound collectionSound judgeOf commandAt settingsSound roomOf slotsOf heldOf joinedOf sameOf begunOf storedOf standOf laid sum packetOf partOf packetsOf replyOf isForbidden lowestOf readOf heardFrom heardOf repeatOf
 wary-fails k =
     let n : _≡_ {A = ℕ} 19 0 = ap (λ (t : Told). t .number) (no-other-unit wary k .receive powerOn roomy-on 0x7D (queryOf 0x7D) .told) in
     omega arith
 
 -- a sign whose last ID is that of a query, which is not sound
 queried : Sign
-queried = record { last = 0x40; slots = powerOn .slots; room = powerOn .room; run = powerOn .run }
+queried = record { completed = record { last = 0x40 }; slots = powerOn .slots; room = powerOn .room; run = powerOn .run }
 
 pub hurried-fails : Keeps hurried → ⊥
-unfolding queried freshOf readyOf startedOf clearedOf stepOf runStep settle answerOf receiveOf joinOf releaseOf staysOf soundOf runSound collectionSound judgeOf commandAt settingsSound roomOf slotsOf heldOf joinedOf sameOf begunOf storedOf standOf laid sum packetOf partOf packetsOf replyOf isForbidden lowestOf readOf heardFrom heardOf repeatOf
+unfolding queried noCompleted lastOf hasOf addedOf completedSound freshOf readyOf startedOf clearedOf stepOf runStep settle answerOf receiveOf joinOf releaseOf staysOf soundOf runSound collectionSound judgeOf commandAt settingsSound roomOf slotsOf heldOf joinedOf sameOf begunOf storedOf standOf laid sum packetOf partOf packetsOf replyOf isForbidden lowestOf readOf heardFrom heardOf repeatOf
 hurried-fails k =
     let n : _≡_ {A = ℕ} 19 16 = ap (λ (t : Told). t .number) (k .safe .receive-unsound queried 0x7F [] refl) in
     omega arith
 
 pub orderly-fails : Keeps orderly → ⊥
-unfolding long freshOf readyOf startedOf clearedOf stepOf runStep settle answerOf receiveOf joinOf releaseOf staysOf soundOf runSound collectionSound judgeOf commandAt settingsSound roomOf slotsOf heldOf joinedOf sameOf begunOf storedOf standOf laid sum packetOf partOf packetsOf replyOf isForbidden lowestOf readOf heardFrom heardOf repeatOf
+unfolding long noCompleted lastOf hasOf addedOf completedSound freshOf readyOf startedOf clearedOf stepOf runStep settle answerOf receiveOf joinOf releaseOf staysOf soundOf runSound collectionSound judgeOf commandAt settingsSound roomOf slotsOf heldOf joinedOf sameOf begunOf storedOf standOf laid sum packetOf partOf packetsOf replyOf isForbidden lowestOf readOf heardFrom heardOf repeatOf
 orderly-fails k =
     let n : _≡_ {A = ℕ} 13 0 = ap (λ (t : Told). t .number) (no-other-unit orderly k .receive powerOn roomy-on 0x80 (packetAt 0x80 5 (long 0x5E) 1) .told) in
     omega arith
 
 pub surly-fails : Keeps surly → ⊥
-unfolding freshOf readyOf startedOf clearedOf stepOf runStep settle answerOf receiveOf joinOf releaseOf staysOf soundOf runSound collectionSound judgeOf commandAt settingsSound roomOf slotsOf heldOf joinedOf sameOf begunOf storedOf standOf laid sum packetOf partOf packetsOf replyOf isForbidden lowestOf readOf heardFrom heardOf repeatOf
+unfolding noCompleted lastOf hasOf addedOf completedSound freshOf readyOf startedOf clearedOf stepOf runStep settle answerOf receiveOf joinOf releaseOf staysOf soundOf runSound collectionSound judgeOf commandAt settingsSound roomOf slotsOf heldOf joinedOf sameOf begunOf storedOf standOf laid sum packetOf partOf packetsOf replyOf isForbidden lowestOf readOf heardFrom heardOf repeatOf
 surly-fails k =
     let n : _≡_ {A = ℕ} 99 0 = ap (λ (t : Told). t .number) (no-other-unit surly k .receive powerOn roomy-on 0x80 (queryOf 0x80) .told) in
     omega arith
 
 pub jumpy-fails : Keeps jumpy → ⊥
-unfolding freshOf readyOf startedOf clearedOf stepOf runStep settle answerOf receiveOf joinOf releaseOf staysOf soundOf runSound collectionSound judgeOf commandAt settingsSound roomOf slotsOf heldOf joinedOf sameOf begunOf storedOf standOf laid sum packetOf partOf packetsOf replyOf isForbidden lowestOf readOf heardFrom heardOf repeatOf
+unfolding noCompleted lastOf hasOf addedOf completedSound freshOf readyOf startedOf clearedOf stepOf runStep settle answerOf receiveOf joinOf releaseOf staysOf soundOf runSound collectionSound judgeOf commandAt settingsSound roomOf slotsOf heldOf joinedOf sameOf begunOf storedOf standOf laid sum packetOf partOf packetsOf replyOf isForbidden lowestOf readOf heardFrom heardOf repeatOf
 jumpy-fails k =
     let n : _≡_ {A = ℕ} 0 1 = ap (λ (t : Told). t .number) (no-other-unit jumpy k .receive powerOn roomy-on 0x80 [] .told) in
     omega arith
 
 pub frozen-fails : Keeps frozen → ⊥
-unfolding shows freshOf readyOf startedOf clearedOf stepOf runStep settle answerOf receiveOf joinOf releaseOf staysOf soundOf runSound collectionSound judgeOf commandAt settingsSound roomOf slotsOf heldOf joinedOf sameOf begunOf storedOf standOf laid sum packetOf partOf packetsOf replyOf isForbidden lowestOf readOf heardFrom heardOf repeatOf
+unfolding shows noCompleted lastOf hasOf addedOf completedSound freshOf readyOf startedOf clearedOf stepOf runStep settle answerOf receiveOf joinOf releaseOf staysOf soundOf runSound collectionSound judgeOf commandAt settingsSound roomOf slotsOf heldOf joinedOf sameOf begunOf storedOf standOf laid sum packetOf partOf packetsOf replyOf isForbidden lowestOf readOf heardFrom heardOf repeatOf
 frozen-fails k =
-    let n : _≡_ {A = ℕ} 5 0x41 = ap (λ (s : Sign). s .last) (no-other-unit frozen k .clear (shows w5) roomy-w5 .next) in
+    let n : _≡_ {A = ℕ} 5 0x41 = ap (λ (s : Sign). lastOf (s .completed)) (no-other-unit frozen k .clear (shows w5) roomy-w5 .next) in
     omega arith
 
 roomy-again : Roomy (shows again)
@@ -277,7 +278,7 @@ unfolding shows again startedOf roomOf laid
 roomy-again = record { lens = refl; room = refl }
 
 pub sulking-fails : Keeps sulking → ⊥
-unfolding shows again freshOf readyOf startedOf clearedOf stepOf runStep settle answerOf receiveOf joinOf releaseOf staysOf soundOf runSound collectionSound judgeOf commandAt settingsSound roomOf slotsOf heldOf joinedOf sameOf begunOf storedOf standOf laid sum packetOf partOf packetsOf replyOf isForbidden lowestOf readOf heardFrom heardOf repeatOf
+unfolding shows again noCompleted lastOf hasOf addedOf completedSound freshOf readyOf startedOf clearedOf stepOf runStep settle answerOf receiveOf joinOf releaseOf staysOf soundOf runSound collectionSound judgeOf commandAt settingsSound roomOf slotsOf heldOf joinedOf sameOf begunOf storedOf standOf laid sum packetOf partOf packetsOf replyOf isForbidden lowestOf readOf heardFrom heardOf repeatOf
 sulking-fails k =
     let n : _≡_ {A = ℕ} 16 0 = ap (λ (t : Told). t .number) (no-other-unit sulking k .step (shows again) roomy-again .told) in
     omega arith
@@ -298,13 +299,13 @@ unfolding shows switching startedOf roomOf laid
 roomy-switching = record { lens = refl; room = refl }
 
 pub dated-fails : Keeps dated → ⊥
-unfolding compact shows freshOf readyOf startedOf clearedOf stepOf runStep settle answerOf receiveOf joinOf releaseOf staysOf soundOf runSound collectionSound judgeOf commandAt settingsSound roomOf slotsOf heldOf joinedOf sameOf begunOf storedOf standOf laid sum packetOf partOf packetsOf replyOf isForbidden lowestOf readOf heardFrom heardOf repeatOf
+unfolding compact shows noCompleted lastOf hasOf addedOf completedSound freshOf readyOf startedOf clearedOf stepOf runStep settle answerOf receiveOf joinOf releaseOf staysOf soundOf runSound collectionSound judgeOf commandAt settingsSound roomOf slotsOf heldOf joinedOf sameOf begunOf storedOf standOf laid sum packetOf partOf packetsOf replyOf isForbidden lowestOf readOf heardFrom heardOf repeatOf
 dated-fails k =
     let n : _≡_ {A = ℕ} 45 46 = ap (valueAt 4) (no-other-unit dated k .step (shows compact) roomy-compact .told) in
     omega arith
 
 pub trailing-fails : Keeps trailing → ⊥
-unfolding switching shows freshOf readyOf startedOf clearedOf stepOf runStep settle answerOf receiveOf joinOf releaseOf staysOf soundOf runSound collectionSound judgeOf commandAt settingsSound roomOf slotsOf heldOf joinedOf sameOf begunOf storedOf standOf laid sum packetOf partOf packetsOf replyOf isForbidden lowestOf readOf heardFrom heardOf repeatOf
+unfolding switching shows noCompleted lastOf hasOf addedOf completedSound freshOf readyOf startedOf clearedOf stepOf runStep settle answerOf receiveOf joinOf releaseOf staysOf soundOf runSound collectionSound judgeOf commandAt settingsSound roomOf slotsOf heldOf joinedOf sameOf begunOf storedOf standOf laid sum packetOf partOf packetsOf replyOf isForbidden lowestOf readOf heardFrom heardOf repeatOf
 trailing-fails k =
     let n : _≡_ {A = ℕ} 46 45 = ap (valueAt 4) (no-other-unit trailing k .step (shows switching) roomy-switching .told) in
     omega arith
@@ -314,23 +315,23 @@ ended : Sign
 ended = ours .step (shows w5) .next
 
 roomy-ended : Roomy ended
-unfolding ended shows freshOf readyOf startedOf clearedOf stepOf runStep settle answerOf receiveOf joinOf releaseOf staysOf soundOf runSound collectionSound judgeOf commandAt settingsSound roomOf slotsOf heldOf joinedOf sameOf begunOf storedOf standOf laid sum packetOf partOf packetsOf replyOf isForbidden lowestOf readOf heardFrom heardOf repeatOf
+unfolding ended shows noCompleted lastOf hasOf addedOf completedSound freshOf readyOf startedOf clearedOf stepOf runStep settle answerOf receiveOf joinOf releaseOf staysOf soundOf runSound collectionSound judgeOf commandAt settingsSound roomOf slotsOf heldOf joinedOf sameOf begunOf storedOf standOf laid sum packetOf partOf packetsOf replyOf isForbidden lowestOf readOf heardFrom heardOf repeatOf
 roomy-ended = record { lens = refl; room = refl }
 
 pub drowsy-fails : Keeps drowsy → ⊥
-unfolding ended shows freshOf readyOf startedOf clearedOf stepOf runStep settle answerOf receiveOf joinOf releaseOf staysOf soundOf runSound collectionSound judgeOf commandAt settingsSound roomOf slotsOf heldOf joinedOf sameOf begunOf storedOf standOf laid sum packetOf partOf packetsOf replyOf isForbidden lowestOf readOf heardFrom heardOf repeatOf
+unfolding ended shows noCompleted lastOf hasOf addedOf completedSound freshOf readyOf startedOf clearedOf stepOf runStep settle answerOf receiveOf joinOf releaseOf staysOf soundOf runSound collectionSound judgeOf commandAt settingsSound roomOf slotsOf heldOf joinedOf sameOf begunOf storedOf standOf laid sum packetOf partOf packetsOf replyOf isForbidden lowestOf readOf heardFrom heardOf repeatOf
 drowsy-fails k =
-    let n : _≡_ {A = ℕ} 0x41 5 = ap (λ (s : Sign). s .last) (no-other-unit drowsy k .step ended roomy-ended .next) in
+    let n : _≡_ {A = ℕ} 0x41 5 = ap (λ (s : Sign). lastOf (s .completed)) (no-other-unit drowsy k .step ended roomy-ended .next) in
     omega arith
 
 pub rosy-fails : Keeps rosy → ⊥
-unfolding shows room20 freshOf readyOf startedOf clearedOf stepOf runStep settle answerOf receiveOf joinOf releaseOf staysOf soundOf runSound collectionSound judgeOf commandAt settingsSound roomOf slotsOf heldOf joinedOf sameOf begunOf storedOf standOf laid sum packetOf partOf packetsOf replyOf isForbidden lowestOf readOf heardFrom heardOf repeatOf
+unfolding shows room20 noCompleted lastOf hasOf addedOf completedSound freshOf readyOf startedOf clearedOf stepOf runStep settle answerOf receiveOf joinOf releaseOf staysOf soundOf runSound collectionSound judgeOf commandAt settingsSound roomOf slotsOf heldOf joinedOf sameOf begunOf storedOf standOf laid sum packetOf partOf packetsOf replyOf isForbidden lowestOf readOf heardFrom heardOf repeatOf
 rosy-fails k =
     let n : _≡_ {A = ℕ} 0x52 0x42 = ap (λ (w : Wrote). getD (w .buffer) 4 0) (no-other-unit rosy k .reply (shows w5) roomy-w5 0x80 false room20) in
     omega arith
 
 pub mute-fails : Keeps mute → ⊥
-unfolding shows room20 freshOf readyOf startedOf clearedOf stepOf runStep settle answerOf receiveOf joinOf releaseOf staysOf soundOf runSound collectionSound judgeOf commandAt settingsSound roomOf slotsOf heldOf joinedOf sameOf begunOf storedOf standOf laid sum packetOf partOf packetsOf replyOf isForbidden lowestOf readOf heardFrom heardOf repeatOf
+unfolding shows room20 noCompleted lastOf hasOf addedOf completedSound freshOf readyOf startedOf clearedOf stepOf runStep settle answerOf receiveOf joinOf releaseOf staysOf soundOf runSound collectionSound judgeOf commandAt settingsSound roomOf slotsOf heldOf joinedOf sameOf begunOf storedOf standOf laid sum packetOf partOf packetsOf replyOf isForbidden lowestOf readOf heardFrom heardOf repeatOf
 mute-fails k =
     let n : _≡_ {A = ℕ} 0 3 = ap (λ (w : Wrote). valueAt 0 (w .told)) (no-other-unit mute k .copy (shows w5) roomy-w5 room20) in
     omega arith
@@ -342,7 +343,7 @@ parrot-fails k =
     omega arith
 
 pub encore-fails : Keeps encore → ⊥
-unfolding freshOf readyOf startedOf clearedOf stepOf runStep settle answerOf receiveOf joinOf releaseOf staysOf soundOf runSound collectionSound judgeOf commandAt settingsSound roomOf slotsOf heldOf joinedOf sameOf begunOf storedOf standOf laid sum packetOf partOf packetsOf replyOf isForbidden lowestOf readOf heardFrom heardOf repeatOf
+unfolding noCompleted lastOf hasOf addedOf completedSound freshOf readyOf startedOf clearedOf stepOf runStep settle answerOf receiveOf joinOf releaseOf staysOf soundOf runSound collectionSound judgeOf commandAt settingsSound roomOf slotsOf heldOf joinedOf sameOf begunOf storedOf standOf laid sum packetOf partOf packetsOf replyOf isForbidden lowestOf readOf heardFrom heardOf repeatOf
 encore-fails k =
     let n : _≡_ {A = ℕ} 13 0 = ap (valueAt 0) (no-other-unit encore k .step (record { sign = powerOn; line = w5 }) roomy-on .told) in
     omega arith
@@ -352,11 +353,11 @@ passed : Sign
 passed = ours .step (ours .step (ours .step (shows twice) .next) .next) .next
 
 roomy-passed : Roomy passed
-unfolding passed shows twice freshOf readyOf startedOf clearedOf stepOf runStep settle answerOf receiveOf joinOf releaseOf staysOf soundOf runSound collectionSound judgeOf commandAt settingsSound roomOf slotsOf heldOf joinedOf sameOf begunOf storedOf standOf laid sum packetOf partOf packetsOf replyOf isForbidden lowestOf readOf heardFrom heardOf repeatOf
+unfolding passed shows twice noCompleted lastOf hasOf addedOf completedSound freshOf readyOf startedOf clearedOf stepOf runStep settle answerOf receiveOf joinOf releaseOf staysOf soundOf runSound collectionSound judgeOf commandAt settingsSound roomOf slotsOf heldOf joinedOf sameOf begunOf storedOf standOf laid sum packetOf partOf packetsOf replyOf isForbidden lowestOf readOf heardFrom heardOf repeatOf
 roomy-passed = record { lens = refl; room = refl }
 
 pub counting-fails : Keeps counting → ⊥
-unfolding passed shows twice freshOf readyOf startedOf clearedOf stepOf runStep settle answerOf receiveOf joinOf releaseOf staysOf soundOf runSound collectionSound judgeOf commandAt settingsSound roomOf slotsOf heldOf joinedOf sameOf begunOf storedOf standOf laid sum packetOf partOf packetsOf replyOf isForbidden lowestOf readOf heardFrom heardOf repeatOf
+unfolding passed shows twice noCompleted lastOf hasOf addedOf completedSound freshOf readyOf startedOf clearedOf stepOf runStep settle answerOf receiveOf joinOf releaseOf staysOf soundOf runSound collectionSound judgeOf commandAt settingsSound roomOf slotsOf heldOf joinedOf sameOf begunOf storedOf standOf laid sum packetOf partOf packetsOf replyOf isForbidden lowestOf readOf heardFrom heardOf repeatOf
 counting-fails k =
     let n : _≡_ {A = ℕ} 0 13 = ap (valueAt 0) (no-other-unit counting k .step (record { sign = passed; script = [] }) roomy-passed .told) in
     omega arith

@@ -48,6 +48,7 @@ use Rattle.reckon.specs.declared.reckon.Foretold.the-variants.{Refused as NoFor
 use Rattle.perform.specs.declared.settings.Settings.{Settings}
 use Rattle.totals.specs.declared.Totals.{Totals}
 use Rattle.room.specs.Room.{roomOf}
+use Rattle.completed.specs.Completed.{hasOf}
 use Rattle.collect.specs.Slots.{Collection, heldOf, sameOf, begunOf, storedOf}
 use Rattle.hear.specs.Join.{slotOf, beginsOf}
 use Rattle.sign.specs.Join.{staysOf, releaseOf, releasedOf, storesOf, placedOf, goesOn, joinOf}
@@ -245,7 +246,7 @@ stays-no s o = refl
 
 join-no : (s : Sign) (id total position n : ℕ) (part : List ℕ) → joinOf s id total position part .outcome ≡ Refused n → 0 < n
 unfolding joinOf staysOf
-join-no s id total position n part e = go (eqb id (s .last)) (eqb (s .run .len) 0) (beginsOf (collectedOf s) id) e
+join-no s id total position n part e = go (hasOf (s .completed) id) (eqb (s .run .len) 0) (beginsOf (collectedOf s) id) e
   where
     on : (t u v : Bool) → Received
     on t u v =

@@ -10,6 +10,7 @@ use Rattle.room.specs.Room.{roomOf}
 use Rattle.judge.specs.Verdict.{judgeOf}
 use Rattle.judge.specs.declared.Verdict.the-variants.{Refused as NoProgram}
 use Rattle.grammar.specs.Grammar.{acceptedAs}
+use Rattle.completed.specs.Completed.{addedOf}
 use Rattle.collect.specs.Slots.{slotsIn, noneOf}
 use Rattle.machine.specs.Step.{startedOf}
 use Rattle.hear.specs.Hear.{toldOf as outcomeTold}
@@ -38,8 +39,8 @@ pub record Gets {R : Type 0} (u : Calls R) (r : R) (mid id : ℕ) (body buffer :
   pub nothing : (p : ℕ) → suc p < totalOf body → answered u r mid buffer p .body ≡ []
   pub released : (p : ℕ) → suc p ≡ totalOf body → answered u r mid buffer p .told ≡ outcomeTold (Released (judgeOf body))
   pub same : (p : ℕ) → suc p ≡ totalOf body → answered u r mid buffer p .body ≡ body
-  -- the record then has that ID as last and collects nothing
-  pub last : u .holds (behind u r mid buffer (totalOf body)) .last ≡ id
+  -- the ID is then completed, and nothing is collected
+  pub completed : u .holds (behind u r mid buffer (totalOf body)) .completed ≡ addedOf (u .holds r .completed) id
   pub none : u .holds (behind u r mid buffer (totalOf body)) .slots ≡ slotsIn noneOf
   -- a program is in the room and runs from its first command, with the settings that there were
   pub holds : (endless : Bool) → judgeOf body ≡ acceptedAs endless → u .holds (behind u r mid buffer (totalOf body)) .room ≡ roomOf body

@@ -10,6 +10,7 @@ use Rattle.packet.specs.Mid.{midRow}
 use Rattle.packet.specs.Write.{shortBy}
 use Rattle.reader.specs.Read.{readOf}
 use Rattle.reader.specs.declared.read.Reading.the-variants.{Query as QueryRead, Reset as ResetRead, Normal, Refused as Unread}
+use Rattle.completed.specs.Completed.{hasOf}
 use Rattle.collect.specs.Slots.{begunOf, storedOf}
 use Rattle.machine.specs.Step.{stepOf as runStep, toldOf as answerTold}
 use Rattle.machine.specs.declared.Answer.the-variants.{Idle}
@@ -42,26 +43,26 @@ pub record Answers {R : Type 0} (u : Calls R) (r : R) : Type 0 where
   pub queried : (mid : ℕ) (b : List ℕ) → readOf mid b ≡ QueryRead → u .receive r mid b ≡ stays r (outcomeTold Query)
   pub cleared : (mid : ℕ) (b : List ℕ) → readOf mid b ≡ ResetRead → Heeds u (u .receive r mid b) (staysOf (resetOf (u .holds r)) Reset)
 
--- a normal packet, in the order of the rules: the number just completed; Busy; another number than the one collected; and of the same
+-- a normal packet, in the order of the rules: a completed number; Busy; another number than the one collected; and of the same
 -- number another N, a free position, a position held with equal data, and one held with other data
 pub record Joins {R : Type 0} (u : Calls R) (r : R) (mid : ℕ) (b : List ℕ) (id total position : ℕ) (part : List ℕ) : Type 0 where
-  pub repeats : id ≡ u .holds r .last → u .receive r mid b ≡ stays r (outcomeTold Repeat)
-  pub waits : (id ≡ u .holds r .last → ⊥) → (u .holds r .run .len ≡ 0 → ⊥) → u .receive r mid b ≡ stays r (no 12)
-  pub begins : (id ≡ u .holds r .last → ⊥) → u .holds r .run .len ≡ 0 → beginsOf (collectedOf (u .holds r)) id ≡ true
+  pub repeats : hasOf (u .holds r .completed) id ≡ true → u .receive r mid b ≡ stays r (outcomeTold Repeat)
+  pub waits : hasOf (u .holds r .completed) id ≡ false → (u .holds r .run .len ≡ 0 → ⊥) → u .receive r mid b ≡ stays r (no 12)
+  pub begins : hasOf (u .holds r .completed) id ≡ false → u .holds r .run .len ≡ 0 → beginsOf (collectedOf (u .holds r)) id ≡ true
       → Heeds u (u .receive r mid b) (countedOf (u .holds r) (storedOf (begunOf id total) position part))
-  pub other-total : (id ≡ u .holds r .last → ⊥) → u .holds r .run .len ≡ 0 → beginsOf (collectedOf (u .holds r)) id ≡ false
+  pub other-total : hasOf (u .holds r .completed) id ≡ false → u .holds r .run .len ≡ 0 → beginsOf (collectedOf (u .holds r)) id ≡ false
       → (u .holds r .slots .total ≡ total → ⊥)
       → u .receive r mid b ≡ stays r (no 13)
-  pub goes-in : (id ≡ u .holds r .last → ⊥) → u .holds r .run .len ≡ 0 → beginsOf (collectedOf (u .holds r)) id ≡ false
+  pub goes-in : hasOf (u .holds r .completed) id ≡ false → u .holds r .run .len ≡ 0 → beginsOf (collectedOf (u .holds r)) id ≡ false
       → u .holds r .slots .total ≡ total
       → getD (u .holds r .slots .lens) position 0 ≡ 0
       → Heeds u (u .receive r mid b) (countedOf (u .holds r) (storedOf (collectedOf (u .holds r)) position part))
-  pub again : (id ≡ u .holds r .last → ⊥) → u .holds r .run .len ≡ 0 → beginsOf (collectedOf (u .holds r)) id ≡ false
+  pub again : hasOf (u .holds r .completed) id ≡ false → u .holds r .run .len ≡ 0 → beginsOf (collectedOf (u .holds r)) id ≡ false
       → u .holds r .slots .total ≡ total
       → (getD (u .holds r .slots .lens) position 0 ≡ 0 → ⊥)
       → slotOf (collectedOf (u .holds r)) position ≡ part
       → u .receive r mid b ≡ stays r (outcomeTold Repeat)
-  pub differs : (id ≡ u .holds r .last → ⊥) → u .holds r .run .len ≡ 0 → beginsOf (collectedOf (u .holds r)) id ≡ false
+  pub differs : hasOf (u .holds r .completed) id ≡ false → u .holds r .run .len ≡ 0 → beginsOf (collectedOf (u .holds r)) id ≡ false
       → u .holds r .slots .total ≡ total
       → (getD (u .holds r .slots .lens) position 0 ≡ 0 → ⊥)
       → (slotOf (collectedOf (u .holds r)) position ≡ part → ⊥)

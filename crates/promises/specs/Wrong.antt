@@ -25,6 +25,7 @@ use Rattle.loops.specs.Token.{Part, act, rep, close, forever, again, Tok, good,
 use Rattle.course.specs.Steps.{saysOf, setsOf, saidAt}
 use Rattle.course.specs.Tree.{Block, stop, one, loop, treeOf, treeIn}
 use Rattle.course.specs.Price.{scans, millis, leavesOf, priceOf}
+use Rattle.completed.specs.Completed.{noneOf as noCompleted, lastOf, hasOf}
 use Rattle.collect.specs.Slots.{heldOf, sameOf}
 use Rattle.room.specs.Room.{roomOf}
 use Rattle.totals.specs.Totals.{totalsOf}
@@ -216,7 +217,7 @@ abbrev pub readied : Heard Sign → Heard Sign
 readied h =
     record {
       told = h .told;
-      next = record { last = h .next .last; slots = h .next .slots; room = replicate 84 0; run = readyOf (h .next .run .settings) };
+      next = record { completed = h .next .completed; slots = h .next .slots; room = replicate 84 0; run = readyOf (h .next .run .settings) };
       body = h .body;
     }
 
@@ -244,7 +245,7 @@ abbrev pub forgets : Sign → Heard Sign → Heard Sign
 forgets s h =
     record {
       told = h .told;
-      next = record { last = s .last; slots = h .next .slots; room = h .next .room; run = h .next .run };
+      next = record { completed = s .completed; slots = h .next .slots; room = h .next .room; run = h .next .run };
       body = h .body;
     }
 
@@ -267,7 +268,7 @@ deaf =
 -- a sign that refuses a packet out of order, but for one of the number just completed
 abbrev pub inOrder : Sign → Reading → Heard Sign → Heard Sign
 inOrder s (Normal id total position len) h =
-    when (eqb id (s .last) or eqb position (when (beginsOf (collectedOf s) id) 0 (heldOf (s .slots .lens)))) h (stays s (no 13))
+    when (hasOf (s .completed) id or eqb position (when (beginsOf (collectedOf s) id) 0 (heldOf (s .slots .lens)))) h (stays s (no 13))
 inOrder s Query h = h
 inOrder s Reset h = h
 inOrder s (Refused n) h = h
@@ -318,12 +319,12 @@ drowsy =
     stepping
     (λ s.
     when (eqb (s .run .len) 0)
-    (record { told = ours .step s .told; next = record { last = 0x41; slots = s .slots; room = s .room; run = s .run } })
+    (record { told = ours .step s .told; next = record { completed = noCompleted; slots = s .slots; room = s .room; run = s .run } })
     (ours .step s))
 
 -- a sign that always says Ready
 abbrev pub rosy : Calls Sign
-rosy = replying (λ s mid sink out. leftBy (toldRows s (midRow mid ∷ shortBy (replyOf mid (s .last) false sink) out ∷ [])) (replyOf mid (s .last) false sink) out)
+rosy = replying (λ s mid sink out. leftBy (toldRows s (midRow mid ∷ shortBy (replyOf mid (lastOf (s .completed)) false sink) out ∷ [])) (replyOf mid (lastOf (s .completed)) false sink) out)
 
 -- a sign that copies nothing out
 abbrev pub mute : Calls Sign
@@ -390,7 +391,7 @@ abbrev pub onceMore : Played → Sign
 onceMore x =
     when (eqb (x .sign .run .len) 0)
     (record {
-      last = x .sign .last;
+      completed = x .sign .completed;
       slots = x .sign .slots;
       room = roomOf (x .line);
       run = startedOf (length (x .line)) (x .sign .run .settings);

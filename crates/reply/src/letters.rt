@@ -6,7 +6,7 @@ ghost use Rattle.packet.specs.Wire.{turned, stateOf, auxOf};
 ghost use Rattle.reply.specs.Reply.{isLast, isTold};
 
 // Whether a sign can have completed this ID last.
-pub fn is_last(id: u8) -> bool
+pub(crate) fn is_last(id: u8) -> bool
     ensures { λ r. ⌜ r ≡ isLast id ⌝ }
 {
     if id <= 0x3f {

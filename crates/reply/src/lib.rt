@@ -9,7 +9,6 @@ mod letters;
 
 pub use hears::read_reply;
 pub use lays::write_reply;
-pub use letters::is_last;
 
 // What the sender hears of a sign: last completed ID, Busy or Ready, AUX sunk or floating.
 pub enum Status {

@@ -1,12 +1,13 @@
--- A packet of the number that was just completed is a Repeat, and to a Busy sign one of any other is 12.
+-- A packet of a completed ID is a Repeat, and to a Busy sign one of any other is 12.
 use Prim.Native.Nat.{ℕ}
-use mathlib.Core.Bool.{not}
+use mathlib.Core.Bool.{true, false, not}
 use mathlib.Core.List.{List}
 use mathlib.Core.Path.{_≡_, ap, _∙_}
 use lib.Dec.{eqb}
 use lib.ListN.{take, drop}
-use borrow.Author.Tests.{eq-eqb, ne-eqb}
+use borrow.Author.Tests.{ne-eqb}
 use Rattle.basis.proofs.Choices.{when-true, when-false}
+use Rattle.completed.specs.Completed.{hasOf}
 use Rattle.reader.specs.Read.{readOf}
 use Rattle.reader.specs.declared.read.Reading.the-variants.{Normal}
 use Rattle.hear.specs.declared.Outcome.the-variants.{Repeat, Refused}
@@ -20,13 +21,13 @@ module _ (s : Sign) (good : Good s) (mid : ℕ) (b : List ℕ) (id total positio
   heard : receiveOf s mid b ≡ joinOf s id total position (take len (drop 5 b))
   heard = sound-receives s mid b (good .sound) ∙ ap (heardOf s b) read
 
-  pub copy-repeats : id ≡ s .last → receiveOf s mid b ≡ staysOf s Repeat
+  pub copy-repeats : hasOf (s .completed) id ≡ true → receiveOf s mid b ≡ staysOf s Repeat
   unfolding joinOf
-  copy-repeats same = heard ∙ when-true (eqb id (s .last)) (staysOf s Repeat) _ (eq-eqb id (s .last) same)
+  copy-repeats same = heard ∙ when-true (hasOf (s .completed) id) (staysOf s Repeat) _ same
 
-  pub busy-waits : (s .run .len ≡ 0 → ⊥) → (id ≡ s .last → ⊥) → receiveOf s mid b ≡ staysOf s (Refused 12)
+  pub busy-waits : (s .run .len ≡ 0 → ⊥) → hasOf (s .completed) id ≡ false → receiveOf s mid b ≡ staysOf s (Refused 12)
   unfolding joinOf
   busy-waits busy other =
       heard
-      ∙ when-false (eqb id (s .last)) (staysOf s Repeat) _ (ne-eqb id (s .last) other)
+      ∙ when-false (hasOf (s .completed) id) (staysOf s Repeat) _ other
       ∙ when-true (not (eqb (s .run .len) 0)) (staysOf s (Refused 12)) _ (ap not (ne-eqb (s .run .len) 0 busy))

@@ -23,6 +23,7 @@ use Rattle.judge.specs.declared.Verdict.{Verdict}
 use Rattle.judge.specs.declared.Verdict.the-variants.{Finite, Endless, Refused as NoProgram}
 use Rattle.machine.specs.Step.{startedOf}
 use Rattle.room.specs.Room.{roomOf}
+use Rattle.completed.specs.Completed.{hasOf, addedOf}
 use Rattle.collect.specs.Slots.{Collection, slotsIn, heldOf, slotsOf, joinedOf, begunOf, noneOf, storedOf}
 use Rattle.collect.proofs.Joined.{blank}
 use Rattle.collect.proofs.Kept.{held-more}
@@ -134,7 +135,7 @@ module _ (id : ℕ) (body : List ℕ) (some : 1 ≤ length body) (most : length 
 
 -- a record with another collection
 abbrev withOf : Sign → Collection → Sign
-withOf s c = signOf (s .last) c (s .run)
+withOf s c = signOf (s .completed) c (s .run)
 
 -- the record after the first packets, short of the last
 abbrev stateAt : Sign → ℕ → List ℕ → ℕ → Sign
@@ -155,7 +156,7 @@ module _ (s : Sign) (good : Good s) (mid id : ℕ) (body : List ℕ) (allowed : 
   begins : joinOf s id (totalOf body) 0 (partOf body 0) ≡ placedOf s (begunOf id (totalOf body)) 0 (partOf body 0)
   unfolding joinOf
   begins =
-      when-false (eqb id (s .last)) _ _ (ne-eqb id (s .last) (waits .other))
+      when-false (hasOf (s .completed) id) _ _ (waits .other)
       ∙ when-false (not (eqb (s .run .len) 0)) _ _ (ap not (eq-eqb (s .run .len) 0 (waits .ready)))
       ∙ when-true (beginsOf (collectedOf s) id) _ _ (waits .begins)
 
@@ -166,7 +167,7 @@ module _ (s : Sign) (good : Good s) (mid id : ℕ) (body : List ℕ) (allowed : 
   goes k c below u =
       let more : c .total ≡ 0 → ⊥ = λ z. omega (arith, u .total) in
       let on : beginsOf c id ≡ false = ap (λ (t : Bool). t or not (eqb (c .id) id)) (ne-eqb (c .total) 0 more) ∙ ap not (eq-eqb (c .id) id (u .named)) in
-      when-false (eqb id (s .last)) _ _ (ne-eqb id (s .last) (waits .other))
+      when-false (hasOf (s .completed) id) _ _ (waits .other)
       ∙ when-false (not (eqb (s .run .len) 0)) _ _ (ap not (eq-eqb (s .run .len) 0 (waits .ready)))
       ∙ when-false (beginsOf c id) _ _ on
       ∙ when-false (not (eqb (c .total) (totalOf body))) _ _ (ap not (eq-eqb (c .total) (totalOf body) (u .total)))
@@ -241,21 +242,21 @@ module _ (s : Sign) (good : Good s) (mid id : ℕ) (body : List ℕ) (allowed : 
 
   -- the record that a body of a verdict leaves
   abbrev left : Verdict → Sign
-  left v = startsOf v (signOf id (bodyIn body) (startedOf (length body) (s .run .settings))) (signOf id noneOf (s .run))
+  left v = startsOf v (signOf (addedOf (s .completed) id) (bodyIn body) (startedOf (length body) (s .run .settings))) (signOf (addedOf (s .completed) id) noneOf (s .run))
 
   delivers-left : (k : ℕ) (v : Verdict) → suc k ≡ totalOf body → judgeOf body ≡ v → answerTo s mid id body k .sign ≡ left v
   unfolding releaseOf
   delivers-left k v last e = ap (λ (r : Received). r .sign) (delivers-released k last) ∙ ap left e
 
-  left-accepted : (endless : Bool) → left (acceptedAs endless) ≡ signOf id (bodyIn body) (startedOf (length body) (s .run .settings))
+  left-accepted : (endless : Bool) → left (acceptedAs endless) ≡ signOf (addedOf (s .completed) id) (bodyIn body) (startedOf (length body) (s .run .settings))
   left-accepted true = refl
   left-accepted false = refl
 
-  -- whatever the verdict, the ID is last and nothing is collected
-  left-last : (v : Verdict) → left v .last ≡ id
-  left-last Finite = refl
-  left-last Endless = refl
-  left-last (NoProgram n place) = refl
+  -- whatever the verdict, the ID is completed and nothing is collected
+  left-completed : (v : Verdict) → left v .completed ≡ addedOf (s .completed) id
+  left-completed Finite = refl
+  left-completed Endless = refl
+  left-completed (NoProgram n place) = refl
 
   left-none : (v : Verdict) → left v .slots ≡ slotsIn noneOf
   unfolding begunOf
@@ -276,7 +277,7 @@ module _ (s : Sign) (good : Good s) (mid id : ℕ) (body : List ℕ) (allowed : 
         stored = delivers-stored;
         released = λ p e. ap (λ (r : Received). r .outcome) (delivers-released p e);
         same = λ p e. ap (λ (r : Received). take (r .len) (r .body)) (delivers-released p e) ∙ take-laid body (blank 84);
-        last = λ p e. ap (λ (t : Sign). t .last) (delivers-left p (judgeOf body) e refl) ∙ left-last (judgeOf body);
+        completed = λ p e. ap (λ (t : Sign). t .completed) (delivers-left p (judgeOf body) e refl) ∙ left-completed (judgeOf body);
         none = λ p e. ap (λ (t : Sign). t .slots) (delivers-left p (judgeOf body) e refl) ∙ left-none (judgeOf body);
         holds = λ p e endless q. ap (λ (t : Sign). t .room) (delivers-left p (acceptedAs endless) e q ∙ left-accepted endless);
         runs = λ p e endless q. ap (λ (t : Sign). t .run) (delivers-left p (acceptedAs endless) e q ∙ left-accepted endless);

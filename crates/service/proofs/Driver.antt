@@ -9,6 +9,7 @@ use lib.Dec.{eqb, leb}
 use lib.ListN.{getD, take, drop}
 use borrow.Author.Tests.{ne-eqb, eqb-true, eqb-false}
 use Rattle.basis.specs.Choice.{when, _or_}
+use Rattle.completed.specs.Completed.{hasOf}
 use Rattle.collect.specs.Slots.{Collection, heldOf, begunOf, sameOf, storedOf}
 use Rattle.reader.specs.Read.{readOf}
 use Rattle.reader.specs.declared.read.Reading.{Reading}
@@ -57,7 +58,7 @@ counted-still s c false e = moved e
 join-still : (s : Sign) (id total position : ℕ) (part : List ℕ) → Still s (joinOf s id total position part)
 unfolding joinOf
 join-still s id total position part =
-    go (eqb id (s .last)) (eqb (s .run .len) 0) (eqb (s .slots .total) 0 or not (eqb (s .slots .id) id)) (eqb (s .slots .total) total)
+    go (hasOf (s .completed) id) (eqb (s .run .len) 0) (eqb (s .slots .total) 0 or not (eqb (s .slots .id) id)) (eqb (s .slots .total) total)
     (eqb (getD (s .slots .lens) position 0) 0)
     (sameOf (slotOf (collectedOf s) position) part)
   where
@@ -105,7 +106,7 @@ receive-none s mid b h = ap (λ (r : Received). take (r .len) (r .body)) (receiv
 -- a Busy record is left by every packet that isn't a reset, its run and its room too
 busy-join : (s : Sign) (id total position : ℕ) (part : List ℕ) → (s .run .len ≡ 0 → ⊥) → joinOf s id total position part .sign ≡ s
 unfolding joinOf staysOf
-busy-join s id total position part busy = go (eqb id (s .last)) (eqb (s .run .len) 0) (ne-eqb (s .run .len) 0 busy)
+busy-join s id total position part busy = go (hasOf (s .completed) id) (eqb (s .run .len) 0) (ne-eqb (s .run .len) 0 busy)
   where
     go : (t u : Bool) → u ≡ false
         → (when t (staysOf s Repeat)

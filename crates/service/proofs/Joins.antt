@@ -11,6 +11,7 @@ use Rattle.basis.proofs.Choices.{when-true, when-false}
 use Rattle.reader.specs.Read.{readOf}
 use Rattle.reader.specs.declared.read.Reading.{Reading}
 use Rattle.reader.specs.declared.read.Reading.the-variants.{Query as QueryRead, Reset as ResetRead, Normal, Refused as Unread}
+use Rattle.completed.specs.Completed.{hasOf}
 use Rattle.collect.specs.Slots.{Collection, heldOf, sameOf, begunOf, storedOf}
 use Rattle.collect.proofs.Equal.{same-equal, equal-same}
 use Rattle.hear.specs.Join.{slotOf, beginsOf}
@@ -57,10 +58,10 @@ module _ (s : Sign) (good : Good s) (mid : ℕ) (b : List ℕ) where
   pub cleared : readOf mid b ≡ ResetRead → receiveOf s mid b ≡ staysOf (resetOf s) Reset
   cleared read = heard ResetRead read
 
--- a normal packet that comes to a Ready sign, of another ID than the last completed
+-- a normal packet that comes to a Ready sign, of an ID that isn't completed
 module _ (s : Sign) (good : Good s) (mid : ℕ) (b : List ℕ) (id total position len : ℕ) (read : readOf mid b ≡ Normal id total position len)
     (ready : s .run .len ≡ 0)
-    (other : id ≡ s .last → ⊥) where
+    (other : hasOf (s .completed) id ≡ false) where
   abbrev part : List ℕ
   part = take len (drop 5 b)
 
@@ -68,7 +69,7 @@ module _ (s : Sign) (good : Good s) (mid : ℕ) (b : List ℕ) (id total positio
   unfolding joinOf
   taken =
       heard s good mid b (Normal id total position len) read
-      ∙ when-false (eqb id (s .last)) (staysOf s Repeat) _ (ne-eqb id (s .last) other)
+      ∙ when-false (hasOf (s .completed) id) (staysOf s Repeat) _ other
       ∙ when-false (not (eqb (s .run .len) 0)) (staysOf s (Refused 12)) _ (ap not (eq-eqb (s .run .len) 0 ready))
 
   -- another ID than the one collected, or none collected: this packet begins

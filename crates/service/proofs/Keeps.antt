@@ -12,7 +12,6 @@ use Rattle.basis.specs.Choice.{when, _and_, _or_, within}
 use Rattle.basis.proofs.Choices.{and-parts, when-true}
 use Rattle.basis.proofs.Laid.{length-laid}
 use Rattle.reader.specs.Read.{readOf}
-use Rattle.reply.specs.Reply.{isLast}
 use Rattle.reader.specs.declared.read.Reading.{Reading}
 use Rattle.reader.specs.declared.read.Reading.the-variants.{Query, Reset, Normal, Refused}
 use Rattle.perform.specs.Settings.{soundOf as settingsSound}
@@ -22,6 +21,9 @@ use Rattle.judge.specs.declared.Verdict.{Verdict}
 use Rattle.grammar.specs.Grammar.{acceptedAs}
 use Rattle.judge.specs.declared.Verdict.the-variants.{Finite, Endless, Refused as NoProgram}
 use Rattle.room.specs.Room.{zerosOf}
+use Rattle.completed.specs.Completed.{noneOf as noCompleted, hasOf, addedOf, soundOf as completedSound}
+use Rattle.completed.specs.declared.Completed.{Completed}
+use Rattle.completed.proofs.Laws.{added-sound, none-sound as no-completed-sound}
 use Rattle.collect.specs.Slots.{Collection, collectionOf, slotsIn, heldOf, joinedOf, begunOf, noneOf, sameOf, storedOf}
 use Rattle.collect.specs.Sound.{nothingOf, soundOf as collectionSound}
 use Rattle.collect.specs.declared.Slots.{Slots}
@@ -60,7 +62,7 @@ unfolding freshOf readyOf begunOf
 fresh-good dim bright e =
     record {
       sound = parts-sound (freshOf dim bright)
-          (record { last = refl; run = ready-sound (replicate 84 0) (startSettings dim bright) e; collects = none-sound 0x41 });
+          (record { completed = no-completed-sound; run = ready-sound (replicate 84 0) (startSettings dim bright) e; collects = none-sound noCompleted });
       roomy = record { lens = refl; room = refl };
     }
 
@@ -97,52 +99,55 @@ nothing-none x size e =
     made id total lens = record { id = id; total = total; lens = lens }
 
 -- a record that collects nothing, with a run that is Ready
-none-good : (s : Sign) (id : ℕ) → Good s → s .run .len ≡ 0 → isLast id ≡ true → Good (signOf id noneOf (s .run))
+none-good : (s : Sign) (d : Completed) → Good s → s .run .len ≡ 0 → completedSound d ≡ true → Good (signOf d noneOf (s .run))
 unfolding begunOf
-none-good s id g ready last =
-    let new = signOf id noneOf (s .run) in
+none-good s d g ready known =
+    let new = signOf d noneOf (s .run) in
     record {
       sound = parts-sound new
           (record {
-            last = last;
+            completed = known;
             run = ready-anywhere (replicate 84 0) (s .room) (s .run) ready ∙ sound-parts s (g .sound) .run;
-            collects = ready-collects new ready ∙ none-sound id;
+            collects = ready-collects new ready ∙ none-sound d;
           });
       roomy = record { lens = refl; room = refl };
     }
 
 -- an accepted body is in the room and starts a sound run
-started-good : (s : Sign) (id : ℕ) (body : List ℕ) (endless : Bool) → judgeOf body ≡ acceptedAs endless → Good s → isLast id ≡ true
-    → Good (signOf id (bodyIn body) (startedOf (length body) (s .run .settings)))
-started-good s id body endless e g last =
+started-good : (s : Sign) (d : Completed) (body : List ℕ) (endless : Bool) → judgeOf body ≡ acceptedAs endless → Good s → completedSound d ≡ true
+    → Good (signOf d (bodyIn body) (startedOf (length body) (s .run .settings)))
+started-good s d body endless e g known =
     let σ = s .run .settings in
     let set = run-parts (s .room) (s .run) (sound-parts s (g .sound) .run) .set in
-    let new = signOf id (bodyIn body) (startedOf (length body) σ) in
+    let new = signOf d (bodyIn body) (startedOf (length body) σ) in
     record {
       sound = parts-sound new
-          (record { last = last; run = started-sound body endless e σ set; collects = busy-collects new (started-busy body endless e σ set) });
+          (record { completed = known; run = started-sound body endless e σ set; collects = busy-collects new (started-busy body endless e σ set) });
       roomy = record { lens = refl; room = started-room body endless e σ set };
     }
 
--- a release completes an ID of a packet with data
-release-good : (s : Sign) (id : ℕ) (body : List ℕ) → Good s → s .run .len ≡ 0 → id ≤ 0x3F → Good (releaseOf s id body .sign)
+-- a release completes an ID of a packet with data that isn't completed yet
+release-good : (s : Sign) (id : ℕ) (body : List ℕ) → Good s → s .run .len ≡ 0 → id ≤ 0x3F → hasOf (s .completed) id ≡ false → Good (releaseOf s id body .sign)
 unfolding releaseOf
-release-good s id body g ready known = go (judgeOf body) refl
+release-good s id body g ready known other = go (judgeOf body) refl
   where
-    last : isLast id ≡ true
-    last = ap (λ (t : Bool). t or eqb id 0x41) (le-leb id 0x3F known)
+    d : Completed
+    d = addedOf (s .completed) id
+
+    right : completedSound d ≡ true
+    right = added-sound (s .completed) id (sound-parts s (g .sound) .completed) known other
 
     go : (v : Verdict) → judgeOf body ≡ v
-        → Good (startsOf v (signOf id (bodyIn body) (startedOf (length body) (s .run .settings))) (signOf id noneOf (s .run)))
-    go Finite e = started-good s id body false e g last
-    go Endless e = started-good s id body true e g last
-    go (NoProgram n p) e = none-good s id g ready last
+        → Good (startsOf v (signOf d (bodyIn body) (startedOf (length body) (s .run .settings))) (signOf d noneOf (s .run)))
+    go Finite e = started-good s d body false e g right
+    go Endless e = started-good s d body true e g right
+    go (NoProgram n p) e = none-good s d g ready right
 
 -- a packet placed in a Ready record
 module _ (s : Sign) (g : Good s) (ready : s .run .len ≡ 0) (c : Collection) (position : ℕ) (part : List ℕ) (lens : length (c .lens) ≡ 6)
     (room : length (c .room) ≡ 84)
     (known : c .id ≤ 0x3F)
-    (other : c .id ≡ s .last → ⊥)
+    (other : hasOf (s .completed) (c .id) ≡ false)
     (o : Open c position (length part)) where
   stores-good : heldOf (storedOf c position part .lens) < c .total → Good (storesOf s (storedOf c position part) .sign)
   unfolding storedOf staysOf
@@ -158,10 +163,10 @@ module _ (s : Sign) (g : Good s) (ready : s .run .len ≡ 0) (c : Collection) (p
       record {
         sound = parts-sound new
             (record {
-              last = p .last;
+              completed = p .completed;
               run = ready-anywhere (storedOf c position part .room) (s .room) (s .run) ready ∙ p .run;
               collects = ready-collects new ready
-                  ∙ collecting-sound (s .last) (storedOf c position part) (λ z. omega (arith, o .right .least))
+                  ∙ collecting-sound (s .completed) (storedOf c position part) (λ z. omega (arith, o .right .least))
                   (record { known = known; other = other; most = o .right .most; some = λ z. omega arith; missing = less })
                   (stored-slots c position part lens room o);
             });
@@ -179,7 +184,7 @@ module _ (s : Sign) (g : Good s) (ready : s .run .len ≡ 0) (c : Collection) (p
       n = storedOf c position part
 
       go : (t : Bool) → leb (c .total) (heldOf (n .lens)) ≡ t → Good (when t (releasedOf s n) (storesOf s n) .sign)
-      go true e = release-good s (c .id) (joinedOf (n .lens) (n .room)) g ready known
+      go true e = release-good s (c .id) (joinedOf (n .lens) (n .room)) g ready known other
       go false e = stores-good (leb-false (c .total) (heldOf (n .lens)) e)
 
 stays-good : (s : Sign) (o : Outcome) → Good s → Good (staysOf s o .sign)
@@ -201,7 +206,7 @@ goes-good s g ready total position part some right =
         .sign)
     go false u v e f = stays-good s (Denied 13) g
     go true true v e f =
-        let k = sound-collecting (s .last) c some (ready-collected s (g .sound) ready) in
+        let k = sound-collecting (s .completed) c some (ready-collected s (g .sound) ready) in
         placed-good s g ready c position part (g .roomy .lens) (g .roomy .room) (k .known) (k .other)
         (goes-open s total position (length part) (g .sound) ready (eqb-true (c .total) total e) right (eqb-true (getD (c .lens) position 0) 0 f))
     go true false true e f = stays-good s Repeat g
@@ -211,9 +216,9 @@ pub join-good : (s : Sign) → Good s → (id total position : ℕ) (part : List
     → Good (joinOf s id total position part .sign)
 unfolding joinOf begunOf
 join-good s g id total position part known right =
-    go (eqb id (s .last)) (eqb (s .run .len) 0) (eqb (s .slots .total) 0) (eqb (s .slots .id) id) refl refl refl
+    go (hasOf (s .completed) id) (eqb (s .run .len) 0) (eqb (s .slots .total) 0) (eqb (s .slots .id) id) refl refl refl
   where
-    go : (t u v w : Bool) → eqb id (s .last) ≡ t → eqb (s .run .len) 0 ≡ u → eqb (s .slots .total) 0 ≡ v
+    go : (t u v w : Bool) → hasOf (s .completed) id ≡ t → eqb (s .run .len) 0 ≡ u → eqb (s .slots .total) 0 ≡ v
         → Good
         (when t (staysOf s Repeat)
         (when (not u) (staysOf s (Denied 12))
@@ -222,10 +227,10 @@ join-good s g id total position part known right =
     go true u v w e f h = stays-good s Repeat g
     go false false v w e f h = stays-good s (Denied 12) g
     go false true true w e f h =
-        placed-good s g (eqb-true (s .run .len) 0 f) (begunOf id total) position part refl refl known (eqb-false id (s .last) e)
+        placed-good s g (eqb-true (s .run .len) 0 f) (begunOf id total) position part refl refl known e
         (begun-open id total position (length part) right)
     go false true false false e f h =
-        placed-good s g (eqb-true (s .run .len) 0 f) (begunOf id total) position part refl refl known (eqb-false id (s .last) e)
+        placed-good s g (eqb-true (s .run .len) 0 f) (begunOf id total) position part refl refl known e
         (begun-open id total position (length part) right)
     go false true false true e f h = goes-good s g (eqb-true (s .run .len) 0 f) total position part (eqb-false (s .slots .total) 0 h) right
 
@@ -259,7 +264,7 @@ step-good s g = subst (λ (r : Stepped). Good (r .sign)) (sym (sound-steps s (g 
 
     -- the record with the run that went on, in a room
     new : List ℕ → Sign
-    new room = record { last = s .last; slots = s .slots; room = room; run = went }
+    new room = record { completed = s .completed; slots = s .slots; room = room; run = went }
 
     ended : (s .run .len ≡ 0 → ⊥) → went .len ≡ 0 → Good (new (replicate 84 0))
     ended busy rests =
@@ -267,11 +272,11 @@ step-good s g = subst (λ (r : Stepped). Good (r .sign)) (sym (sound-steps s (g 
         record {
           sound = parts-sound (new (replicate 84 0))
               (record {
-                last = p .last;
+                completed = p .completed;
                 run = ready-anywhere (replicate 84 0) (s .room) went rests ∙ kept;
                 collects = ready-collects (new (replicate 84 0)) rests
-                    ∙ ap (λ (x : Slots). collectionSound (s .last) (collectionOf x (replicate 84 0))) none
-                    ∙ none-sound (s .last);
+                    ∙ ap (λ (x : Slots). collectionSound (s .completed) (collectionOf x (replicate 84 0))) none
+                    ∙ none-sound (s .completed);
               });
           roomy = record { lens = g .roomy .lens; room = refl };
         }
@@ -280,7 +285,7 @@ step-good s g = subst (λ (r : Stepped). Good (r .sign)) (sym (sound-steps s (g 
     goes busy on =
         record {
           sound = parts-sound (new (s .room))
-              (record { last = p .last; run = kept; collects = busy-collects (new (s .room)) on ∙ busy-nothing s (g .sound) busy });
+              (record { completed = p .completed; run = kept; collects = busy-collects (new (s .room)) on ∙ busy-nothing s (g .sound) busy });
           roomy = record { lens = g .roomy .lens; room = g .roomy .room };
         }
 
@@ -292,7 +297,7 @@ step-good s g = subst (λ (r : Stepped). Good (r .sign)) (sym (sound-steps s (g 
     go true e =
         let same : runStep (s .room) (s .run) ≡ record { run = s .run; answer = Idle } =
         step-ready (s .room) (s .run) (p .run) (eqb-true (s .run .len) 0 e) in
-        subst (λ (x : RunStepped). Good (record { last = s .last; slots = s .slots; room = s .room; run = x .run })) (sym same) g
+        subst (λ (x : RunStepped). Good (record { completed = s .completed; slots = s .slots; room = s .room; run = x .run })) (sym same) g
     go false e = after (eqb (went .len) 0) refl (eqb-false (s .run .len) 0 e)
 
 -- and so does the call of a reset

@@ -9,6 +9,7 @@ use lib.ListN.{length, drop, length-drop, take-append-drop}
 use lib.Seq.{length-take-le}
 use borrow.Author.Tests.{eqb-true, eqb-false}
 use Rattle.perform.specs.declared.settings.Settings.{Settings}
+use Rattle.completed.specs.declared.Completed.{Completed}
 use Rattle.collect.specs.Slots.{Collection, slotsIn, packetsOf}
 use Rattle.collect.specs.declared.Slots.{Slots}
 use Rattle.collect.proofs.Joined.{all-zeros, blank}
@@ -38,7 +39,7 @@ body-room s g busy =
 
 -- what two records hold alike
 pub record Alike (s t : Sign) : Type 0 where
-  pub last : s .last ≡ t .last
+  pub completed : s .completed ≡ t .completed
   pub id : s .slots .id ≡ t .slots .id
   pub total : s .slots .total ≡ t .slots .total
   pub packets : packetsOf (s .slots .lens) (s .room) ≡ packetsOf (t .slots .lens) (t .room)
@@ -50,7 +51,7 @@ pub record Alike (s t : Sign) : Type 0 where
 neat : (s : Sign) → Good s → s .run .len ≡ 0 → Neat (collectedOf s)
 neat s g ready =
     record {
-      slots = sound-slots (s .last) (collectedOf s) (ready-collected s (g .sound) ready);
+      slots = sound-slots (s .completed) (collectedOf s) (ready-collected s (g .sound) ready);
       lens = g .roomy .lens;
       room = g .roomy .room;
     }
@@ -83,14 +84,14 @@ module _ (s t : Sign) (g : Good s) (h : Good t) (a : Alike s t) where
 pub one-record : (s t : Sign) → Good s → Good t → Alike s t → s ≡ t
 one-record s t g h a =
     let w = one-room s t g h a in
-    ap (λ (n : ℕ). made n (s .slots) (s .room) (s .run .len) (s .run .place) (s .run .inner) (s .run .settings)) (a .last)
-    ∙ ap (λ (x : Slots). made (t .last) x (s .room) (s .run .len) (s .run .place) (s .run .inner) (s .run .settings)) (w .0)
-    ∙ ap (λ (xs : List ℕ). made (t .last) (t .slots) xs (s .run .len) (s .run .place) (s .run .inner) (s .run .settings)) (w .1)
-    ∙ ap (λ (n : ℕ). made (t .last) (t .slots) (t .room) n (s .run .place) (s .run .inner) (s .run .settings)) (one-len s t g h a)
-    ∙ ap (λ (n : ℕ). made (t .last) (t .slots) (t .room) (t .run .len) n (s .run .inner) (s .run .settings)) (a .place)
-    ∙ ap (λ (x : Loop). made (t .last) (t .slots) (t .room) (t .run .len) (t .run .place) x (s .run .settings)) (a .inner)
-    ∙ ap (λ (x : Settings). made (t .last) (t .slots) (t .room) (t .run .len) (t .run .place) (t .run .inner) x) (a .settings)
+    ap (λ (d : Completed). made d (s .slots) (s .room) (s .run .len) (s .run .place) (s .run .inner) (s .run .settings)) (a .completed)
+    ∙ ap (λ (x : Slots). made (t .completed) x (s .room) (s .run .len) (s .run .place) (s .run .inner) (s .run .settings)) (w .0)
+    ∙ ap (λ (xs : List ℕ). made (t .completed) (t .slots) xs (s .run .len) (s .run .place) (s .run .inner) (s .run .settings)) (w .1)
+    ∙ ap (λ (n : ℕ). made (t .completed) (t .slots) (t .room) n (s .run .place) (s .run .inner) (s .run .settings)) (one-len s t g h a)
+    ∙ ap (λ (n : ℕ). made (t .completed) (t .slots) (t .room) (t .run .len) n (s .run .inner) (s .run .settings)) (a .place)
+    ∙ ap (λ (x : Loop). made (t .completed) (t .slots) (t .room) (t .run .len) (t .run .place) x (s .run .settings)) (a .inner)
+    ∙ ap (λ (x : Settings). made (t .completed) (t .slots) (t .room) (t .run .len) (t .run .place) (t .run .inner) x) (a .settings)
   where
-    made : ℕ → Slots → List ℕ → ℕ → ℕ → Loop → Settings → Sign
-    made last slots room len place inner settings =
-        record { last = last; slots = slots; room = room; run = record { len = len; place = place; inner = inner; settings = settings } }
+    made : Completed → Slots → List ℕ → ℕ → ℕ → Loop → Settings → Sign
+    made completed slots room len place inner settings =
+        record { completed = completed; slots = slots; room = room; run = record { len = len; place = place; inner = inner; settings = settings } }

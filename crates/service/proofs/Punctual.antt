@@ -98,10 +98,10 @@ pub steps-good : (n : ℕ) (s : Sign) → Good s → Good (afterSteps n s)
 steps-good zero s g = g
 steps-good (suc n) s g = steps-good n (stepOf s .sign) (step-good s g)
 
--- and leave the last completed ID
-pub steps-last : (n : ℕ) (s : Sign) → Good s → afterSteps n s .last ≡ s .last
-steps-last zero s g = refl
-steps-last (suc n) s g = steps-last n (stepOf s .sign) (step-good s g) ∙ ap (λ (r : Stepped). r .sign .last) (sound-steps s (g .sound))
+-- and leave the completed IDs
+pub steps-completed : (n : ℕ) (s : Sign) → Good s → afterSteps n s .completed ≡ s .completed
+steps-completed zero s g = refl
+steps-completed (suc n) s g = steps-completed n (stepOf s .sign) (step-good s g) ∙ ap (λ (r : Stepped). r .sign .completed) (sound-steps s (g .sound))
 
 after-next : (n : ℕ) (s : Sign) → afterSteps (suc n) s ≡ stepOf (afterSteps n s) .sign
 after-next zero s = refl

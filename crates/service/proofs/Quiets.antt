@@ -1,5 +1,5 @@
 -- A line that was started and that no reset for this MID comes to: it keeps to its forecast up to its last step, and that one too; an
--- endless one goes on. Its record stays sound and keeps its last completed ID.
+-- endless one goes on. Its record stays sound and keeps its completed IDs.
 use Prim.Native.Nat.{ℕ, suc, _≤_, _<_}
 use mathlib.Core.List.{List, [], _∷_, _++_}
 use mathlib.Core.Bool.{true}
@@ -21,7 +21,7 @@ use Rattle.service.specs.Driver.{Event, step, bytes, afterEvents, afterS
 use Rattle.service.specs.Good.{Good}
 use Rattle.service.specs.Punctual.{OnTime, Unending}
 use Rattle.service.proofs.Driver.{driver-after, driver-said}
-use Rattle.service.proofs.Punctual.{steps-good, steps-last, steps-hold, started-run, started-said, busy-steps, on-time}
+use Rattle.service.proofs.Punctual.{steps-good, steps-completed, steps-hold, started-run, started-said, busy-steps, on-time}
 
 -- where no bytes are a reset and the sign is Busy at each step, the line is undisturbed
 pub quiet-undisturbed : (mid : ℕ) (es : List Event) (s : Sign) → Quiet mid es
@@ -49,13 +49,13 @@ steps-then [] = refl
 steps-then (step ∷ es) = ap suc (steps-then es)
 steps-then (bytes b ∷ es) = steps-then es
 
--- the record of an undisturbed line stays sound and keeps its last completed ID
+-- the record of an undisturbed line stays sound and keeps its completed IDs
 pub undisturbed-keeps : (mid : ℕ) (es : List Event) (s : Sign) → Good s → Undisturbed mid es s
-    → Good (afterEvents mid es s) × (afterEvents mid es s .last ≡ s .last)
+    → Good (afterEvents mid es s) × (afterEvents mid es s .completed ≡ s .completed)
 undisturbed-keeps mid es s good u =
     let after : afterEvents mid es s ≡ afterSteps (stepsIn es) s = driver-after mid es s u in (
       subst Good (sym after) (steps-good (stepsIn es) s good),
-      ap (λ (t : Sign). t .last) after ∙ steps-last (stepsIn es) s good,
+      ap (λ (t : Sign). t .completed) after ∙ steps-completed (stepsIn es) s good,
     )
 
 -- a line that ends, short of its last step
@@ -76,12 +76,12 @@ module _ (mid : ℕ) (es : List Event) (s : Sign) (b : List ℕ) (σ : Settings)
   pub quiet-line-then : OnTime mid (es ++ (step ∷ [])) s b σ
   quiet-line-then = on-time mid (es ++ (step ∷ [])) s b σ good holds runs set finite (then-step mid es s undisturbed)
 
-  -- its record stays sound and keeps its last completed ID
-  pub quiet-keeps : Good (afterEvents mid es s) × (afterEvents mid es s .last ≡ s .last)
+  -- its record stays sound and keeps its completed IDs
+  pub quiet-keeps : Good (afterEvents mid es s) × (afterEvents mid es s .completed ≡ s .completed)
   quiet-keeps = undisturbed-keeps mid es s good undisturbed
 
   -- and so it does with one step more
-  pub quiet-keeps-then : Good (afterEvents mid (es ++ (step ∷ [])) s) × (afterEvents mid (es ++ (step ∷ [])) s .last ≡ s .last)
+  pub quiet-keeps-then : Good (afterEvents mid (es ++ (step ∷ [])) s) × (afterEvents mid (es ++ (step ∷ [])) s .completed ≡ s .completed)
   quiet-keeps-then = undisturbed-keeps mid (es ++ (step ∷ [])) s good (then-step mid es s undisturbed)
 
 -- an endless line, after any steps
@@ -108,6 +108,6 @@ module _ (mid : ℕ) (es : List Event) (s : Sign) (b : List ℕ) (σ : Settings)
         said = driver-said mid es s unhindered ∙ started-said s b σ good holds runs n ∙ line-goes b endless σ set n;
       }
 
-  -- its record stays sound and keeps its last completed ID
-  pub endless-keeps : Good (afterEvents mid es s) × (afterEvents mid es s .last ≡ s .last)
+  -- its record stays sound and keeps its completed IDs
+  pub endless-keeps : Good (afterEvents mid es s) × (afterEvents mid es s .completed ≡ s .completed)
   endless-keeps = undisturbed-keeps mid es s good unhindered

@@ -7,6 +7,7 @@ use lib.Dec.{eqb, leb}
 use lib.ListN.{getD, take, drop}
 use Rattle.basis.specs.Choice.{when, _and_}
 use Rattle.basis.proofs.Choices.{when-true, when-false}
+use Rattle.completed.specs.Completed.{hasOf}
 use Rattle.collect.specs.Slots.{Collection, heldOf, sameOf, begunOf, storedOf}
 use Rattle.collect.proofs.Sounds.{sound-slots}
 use Rattle.packet.specs.Mid.{isForbidden}
@@ -33,7 +34,7 @@ use Rattle.sign.proofs.Sounds.{ready-collected, sound-framed}
 pub goes-open : (s : Sign) (total position len : ℕ) → soundOf s ≡ true → s .run .len ≡ 0 → s .slots .total ≡ total → Right total position len
     → getD (s .slots .lens) position 0 ≡ 0 → Open (collectedOf s) position len
 goes-open s total position len e ready =
-    into-open (collectedOf s) total position len (sound-slots (s .last) (collectedOf s) (ready-collected s e ready))
+    into-open (collectedOf s) total position len (sound-slots (s .completed) (collectedOf s) (ready-collected s e ready))
 
 -- bytes that come to a sound record are judged by what is read of them
 pub sound-receives : (s : Sign) (mid : ℕ) (b : List ℕ) → soundOf s ≡ true → receiveOf s mid b ≡ heardOf s b (readOf mid b)
@@ -51,24 +52,24 @@ forbidden-receives s mid b sound e = sound-receives s mid b sound ∙ ap (heardO
 -- the record after what was heard
 module _ (s : Sign) where
   abbrev pub after : Left → Received
-  after l = behindOf (l .outcome) (signOf (l .last) (l .collection) (s .run)) (l .len)
+  after l = behindOf (l .outcome) (signOf (l .completed) (l .collection) (s .run)) (l .len)
 
   abbrev stay : Outcome → Left
-  stay o = stayOf (s .last) (collectedOf s) o
+  stay o = stayOf (s .completed) (collectedOf s) o
 
-  after-count : (c : Collection) → after (countOf (s .last) c) ≡ countedOf s c
+  after-count : (c : Collection) → after (countOf (s .completed) c) ≡ countedOf s c
   unfolding releaseOf begunOf
   after-count c = go (leb (c .total) (heldOf (c .lens)))
     where
-      go : (t : Bool) → after (when t (wholeOf c) (stayOf (s .last) c Stored)) ≡ when t (releasedOf s c) (storesOf s c)
+      go : (t : Bool) → after (when t (wholeOf (s .completed) c) (stayOf (s .completed) c Stored)) ≡ when t (releasedOf s c) (storesOf s c)
       go true = refl
       go false = refl
 
   after-join : (id total position : ℕ) (part : List ℕ)
-      → after (joinBy stay (countOf (s .last)) (s .last) (collectedOf s) (s .run .len) id total position part) ≡ joinOf s id total position part
+      → after (joinBy stay (countOf (s .completed)) (s .completed) (collectedOf s) (s .run .len) id total position part) ≡ joinOf s id total position part
   unfolding joinOf
   after-join id total position part =
-      go (eqb id (s .last)) (eqb (s .run .len) 0) (beginsOf c id) (eqb (c .total) total) (eqb (getD (c .lens) position 0) 0) (sameOf (slotOf c position) part)
+      go (hasOf (s .completed) id) (eqb (s .run .len) 0) (beginsOf c id) (eqb (c .total) total) (eqb (getD (c .lens) position 0) 0) (sameOf (slotOf c position) part)
     where
       c : Collection
       c = collectedOf s
@@ -77,9 +78,9 @@ module _ (s : Sign) where
           → after
           (when t (stay Repeat)
           (when (not u) (stay (Refused 12))
-          (when v (countOf (s .last) (storedOf (begunOf id total) position part))
+          (when v (countOf (s .completed) (storedOf (begunOf id total) position part))
           (when (not w) (stay (Refused 13))
-          (when x (countOf (s .last) (storedOf c position part)) (when y (stay Repeat) (stay (Refused 13))))))))
+          (when x (countOf (s .completed) (storedOf c position part)) (when y (stay Repeat) (stay (Refused 13))))))))
           ≡ when t (staysOf s Repeat)
           (when (not u) (staysOf s (Refused 12))
           (when v (countedOf s (storedOf (begunOf id total) position part))
@@ -93,7 +94,7 @@ module _ (s : Sign) where
       go false true false true false true = refl
       go false true false true false false = refl
 
-  after-read : (b : List ℕ) (x : Reading) → after (heardBy (s .last) (collectedOf s) (s .run .len) b x) ≡ heardOf s b x
+  after-read : (b : List ℕ) (x : Reading) → after (heardBy (s .completed) (collectedOf s) (s .run .len) b x) ≡ heardOf s b x
   unfolding freshOf
   after-read b QueryRead = refl
   after-read b ResetRead = refl
@@ -102,7 +103,7 @@ module _ (s : Sign) where
 
 -- a record whose run is sound receives what is heard of the rest of it
 pub received-is : (s : Sign) (mid : ℕ) (b : List ℕ) (l : Left) (r : Received) → runSound (s .room) (s .run) ≡ true
-    → l ≡ hearOf (s .last) (collectedOf s) (s .run .len) mid b
+    → l ≡ hearOf (s .completed) (collectedOf s) (s .run .len) mid b
     → r ≡ after s l
     → r ≡ receiveOf s mid b
 received-is s mid b l r run el er = er ∙ ap (after s) el ∙ go (framedOf s) refl
@@ -114,13 +115,13 @@ received-is s mid b l r run el er = er ∙ ap (after s) el ∙ go (framedOf s) r
         whole true = refl
         whole false = refl
 
-    go : (t : Bool) → framedOf s ≡ t → after s (hearOf (s .last) (collectedOf s) (s .run .len) mid b) ≡ receiveOf s mid b
+    go : (t : Bool) → framedOf s ≡ t → after s (hearOf (s .completed) (collectedOf s) (s .run .len) mid b) ≡ receiveOf s mid b
     go true e =
-        ap (after s) (framed-hears (s .last) (collectedOf s) (s .run .len) mid b e)
+        ap (after s) (framed-hears (s .completed) (collectedOf s) (s .run .len) mid b e)
         ∙ after-read s b (readOf mid b)
         ∙ sym (sound-receives s mid b (sound ∙ e))
     go false e =
-        ap (after s) (unframed-hears (s .last) (collectedOf s) (s .run .len) mid b e) ∙ sym (unsound-receives s mid b (sound ∙ e))
+        ap (after s) (unframed-hears (s .completed) (collectedOf s) (s .run .len) mid b e) ∙ sym (unsound-receives s mid b (sound ∙ e))
 
 -- a record whose run is not sound receives nothing
 pub unsound-run : (s : Sign) (mid : ℕ) (b : List ℕ) → runSound (s .room) (s .run) ≡ false → receiveOf s mid b ≡ staysOf s (Refused 16)

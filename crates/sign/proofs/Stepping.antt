@@ -28,7 +28,7 @@ unsound-steps s e = when-false (soundOf s) (steppedOf s (runStep (s .room) (s .r
 pub same-run : (s : Sign) → runsOf s (s .run) ≡ s
 same-run s = go (eqb (s .run .len) 0)
   where
-    go : (t : Bool) → _≡_ {A = Sign} (record { last = s .last; slots = s .slots; room = when (not t and t) (replicate 84 0) (s .room); run = s .run }) s
+    go : (t : Bool) → _≡_ {A = Sign} (record { completed = s .completed; slots = s .slots; room = when (not t and t) (replicate 84 0) (s .room); run = s .run }) s
     go true = refl
     go false = refl
 

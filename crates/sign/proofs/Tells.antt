@@ -2,7 +2,7 @@
 use Prim.Native.Nat.{ℕ, _≤_, _<_}
 use mathlib.Core.List.{List, [], _∷_, _++_}
 use mathlib.Core.Bool.{Bool, true, false, not}
-use mathlib.Core.Path.{_≡_, sym, ap, _∙_}
+use mathlib.Core.Path.{_≡_, sym, ap, _∙_, subst}
 use native.Mathlib.Omega.{arith}
 use lib.ListN.{length, take, drop}
 use lib.Seq.{length-take-le, take-length}
@@ -11,8 +11,11 @@ use Rattle.basis.specs.Bytes.{laid}
 use Rattle.basis.specs.Choice.{when}
 use Rattle.basis.specs.Rows.{Row, _if_, firstOf}
 use Rattle.machine.specs.Sound.{bodyOf}
-use Rattle.reply.specs.Reply.{isLast, replyRows}
+use Rattle.completed.specs.Completed.{lastOf, soundOf as completedSound}
+use Rattle.completed.proofs.Laws.{last-told}
+use Rattle.reply.specs.Reply.{replyRows}
 use Rattle.packet.specs.Mid.{midRow}
+use Rattle.packet.specs.Wire.{replyOf}
 use Rattle.packet.specs.Write.{shortBy, answerOf, bufferOf, Writes}
 use Rattle.packet.specs.declared.write.Written.{Written}
 use Rattle.packet.specs.declared.write.Written.the-variants.{Wrote, Refused}
@@ -29,13 +32,16 @@ unsound-tells s rows bytes out e = refused (toldRows s rows) bytes out 15 (ap (�
 sound-rows : (s : Sign) (rows : List Row) → soundOf s ≡ true → firstOf (toldRows s rows) ≡ firstOf rows
 sound-rows s rows e = ap (λ (t : Bool). firstOf (16 if not t ∷ rows)) e
 
-pub reply-tells : (s : Sign) (mid : ℕ) (aux : Bool) (out after : List ℕ) (r : Written) → soundOf s ≡ true → isLast (s .last) ≡ true
-    → Writes (midRow mid ∷ replyRows mid (s .last) (busyOf s) aux out) (saysOf s mid aux) out r after
+pub reply-tells : (s : Sign) (mid : ℕ) (aux : Bool) (out after : List ℕ) (r : Written) (last : ℕ) → soundOf s ≡ true → completedSound (s .completed) ≡ true
+    → last ≡ lastOf (s .completed)
+    → Writes (midRow mid ∷ replyRows mid last (busyOf s) aux out) (replyOf mid last (busyOf s) aux) out r after
     → Writes (saysRows s mid aux out) (saysOf s mid aux) out r after
-reply-tells s mid aux out after r sound last w =
+reply-tells s mid aux out after r last sound completed same w =
     let bytes = saysOf s mid aux in
-    let e : firstOf (midRow mid ∷ replyRows mid (s .last) (busyOf s) aux out) ≡ firstOf (saysRows s mid aux out) =
-    ap (λ (t : Bool). firstOf (midRow mid ∷ 32 if not t ∷ shortBy bytes out ∷ [])) last ∙ sym (sound-rows s (midRow mid ∷ shortBy bytes out ∷ []) sound) in
+    let w : Writes (midRow mid ∷ replyRows mid (lastOf (s .completed)) (busyOf s) aux out) bytes out r after =
+    subst (λ (n : ℕ). Writes (midRow mid ∷ replyRows mid n (busyOf s) aux out) (replyOf mid n (busyOf s) aux) out r after) same w in
+    let e : firstOf (midRow mid ∷ replyRows mid (lastOf (s .completed)) (busyOf s) aux out) ≡ firstOf (saysRows s mid aux out) =
+    ap (λ (t : Bool). firstOf (midRow mid ∷ 32 if not t ∷ shortBy bytes out ∷ [])) (last-told (s .completed) completed) ∙ sym (sound-rows s (midRow mid ∷ shortBy bytes out ∷ []) sound) in
     record { answered = w .answered ∙ ap (λ (n : ℕ). answerOf n bytes) e; left = w .left ∙ ap (λ (n : ℕ). bufferOf n bytes out) e }
 
 module _ (s : Sign) (out : List ℕ) (sound : soundOf s ≡ true) (room : s .run .len ≤ length (s .room)) where

@@ -7,6 +7,8 @@ use Rattle.room.specs.Room.{roomOf}
 use Rattle.judge.specs.Verdict.{judgeOf}
 use Rattle.judge.specs.declared.Verdict.{Verdict}
 use Rattle.judge.specs.declared.Verdict.the-variants.{Finite, Endless, Refused as NoProgram}
+use Rattle.completed.specs.Completed.{addedOf}
+use Rattle.completed.specs.declared.Completed.{Completed}
 use Rattle.collect.specs.Slots.{Collection, slotsIn, joinedOf, noneOf, storedOf}
 use Rattle.machine.specs.Step.{startedOf}
 use Rattle.machine.specs.declared.Run.{Run}
@@ -17,9 +19,9 @@ use Rattle.sign.specs.Sound.{collectedOf}
 use Rattle.sign.specs.declared.Sign.{Sign}
 use Rattle.sign.specs.declared.Received.{Received}
 
--- the record of a last ID, what is collected with its room, and a run
-abbrev pub signOf : ℕ → Collection → Run → Sign
-signOf last c run = record { last = last; slots = slotsIn c; room = c .room; run = run }
+-- the record of completed IDs, what is collected with its room, and a run
+abbrev pub signOf : Completed → Collection → Run → Sign
+signOf completed c run = record { completed = completed; slots = slotsIn c; room = c .room; run = run }
 
 -- nothing changes, and no body comes with the answer
 unfoldable pub staysOf : Sign → Outcome → Received
@@ -33,13 +35,13 @@ startsOf (NoProgram n p) runs rests = rests
 
 -- Stored: the collection with the packet in it
 abbrev pub storesOf : Sign → Collection → Received
-storesOf s c = staysOf (signOf (s .last) c (s .run)) Stored
+storesOf s c = staysOf (signOf (s .completed) c (s .run)) Stored
 
--- Released: the body comes with the answer, nothing is being collected, the ID is last completed
+-- Released: the body comes with the answer, nothing is being collected, the ID is completed
 unfoldable pub releaseOf : Sign → ℕ → List ℕ → Received
 releaseOf s id body =
     record {
-      sign = startsOf (judgeOf body) (signOf id (bodyIn body) (startedOf (length body) (s .run .settings))) (signOf id noneOf (s .run));
+      sign = startsOf (judgeOf body) (signOf (addedOf (s .completed) id) (bodyIn body) (startedOf (length body) (s .run .settings))) (signOf (addedOf (s .completed) id) noneOf (s .run));
       outcome = Released (judgeOf body);
       body = roomOf body;
       len = length body;
@@ -61,11 +63,11 @@ abbrev pub goesOn : Sign → ℕ → ℕ → List ℕ → Received
 goesOn s total position part = goesBy (staysOf s) (countedOf s) (collectedOf s) total position part
 
 unfoldable pub joinOf : Sign → ℕ → ℕ → ℕ → List ℕ → Received
-joinOf s id total position part = joinBy (staysOf s) (countedOf s) (s .last) (collectedOf s) (s .run .len) id total position part
+joinOf s id total position part = joinBy (staysOf s) (countedOf s) (s .completed) (collectedOf s) (s .run .len) id total position part
 
 -- a record whose room holds a body of this length that runs, and one whose room is emptied
 abbrev pub runningOf : Sign → ℕ → Sign
-runningOf s len = record { last = s .last; slots = s .slots; room = s .room; run = startedOf len (s .run .settings) }
+runningOf s len = record { completed = s .completed; slots = s .slots; room = s .room; run = startedOf len (s .run .settings) }
 
 abbrev pub emptiedOf : Sign → Sign
-emptiedOf s = record { last = s .last; slots = s .slots; room = replicate 84 0; run = s .run }
+emptiedOf s = record { completed = s .completed; slots = s .slots; room = replicate 84 0; run = s .run }

@@ -25,7 +25,7 @@ receiveOf s mid b = when (soundOf s) (heardOf s b (readOf mid b)) (staysOf s (Re
 abbrev pub behindOf : Outcome → Sign → ℕ → Received
 behindOf Query s len = staysOf s Query
 behindOf Reset s len =
-    staysOf (record { last = s .last; slots = s .slots; room = s .room; run = readyOf (startSettings (s .run .settings .dim) (s .run .settings .bright)) }) Reset
+    staysOf (record { completed = s .completed; slots = s .slots; room = s .room; run = readyOf (startSettings (s .run .settings .dim) (s .run .settings .bright)) }) Reset
 behindOf Repeat s len = staysOf s Repeat
 behindOf Stored s len = staysOf s Stored
 behindOf (Released v) s len = record { sign = startsOf v (runningOf s len) (emptiedOf s); outcome = Released v; body = s .room; len = len }

@@ -2,6 +2,7 @@
 use Prim.Native.Nat.{ℕ}
 use Rattle.basis.specs.Choice.{when}
 use Rattle.perform.specs.declared.settings.Settings.{Settings}
+use Rattle.completed.specs.Completed.{noneOf as noCompleted}
 use Rattle.collect.specs.Slots.{noneOf}
 use Rattle.machine.specs.Step.{readyOf}
 use Rattle.sign.specs.Join.{signOf}
@@ -14,9 +15,9 @@ use Rattle.hear.specs.declared.Outcome.the-variants.{Reset, Refused}
 abbrev pub startSettings : ℕ → ℕ → Settings
 startSettings dim bright = record { pace = 4; scans = 1; sink = 0; dim = dim; bright = bright }
 
--- nothing collected, no body, last ID 41h
+-- nothing collected, no body, no completed ID
 unfoldable pub freshOf : ℕ → ℕ → Sign
-freshOf dim bright = signOf 0x41 noneOf (readyOf (startSettings dim bright))
+freshOf dim bright = signOf noCompleted noneOf (readyOf (startSettings dim bright))
 
 -- dim threshold and forced brightness stay
 abbrev pub resetOf : Sign → Sign

@@ -3,7 +3,7 @@
 use mathlib.Core.Bool.{Bool}
 use lib.Dec.{eqb}
 use Rattle.basis.specs.Choice.{when, _and_}
-use Rattle.reply.specs.Reply.{isLast}
+use Rattle.completed.specs.Completed.{soundOf as completedSound}
 use Rattle.collect.specs.Slots.{Collection, collectionOf}
 use Rattle.collect.specs.Sound.{nothingOf, soundOf as collectionSound}
 use Rattle.machine.specs.Sound.{soundOf as runSound}
@@ -16,11 +16,11 @@ collectedOf s = collectionOf (s .slots) (s .room)
 
 -- Ready: the collected packets are sound; Busy collects nothing
 abbrev pub collectsOf : Sign → Bool
-collectsOf s = when (eqb (s .run .len) 0) (collectionSound (s .last) (collectedOf s)) (nothingOf (s .slots))
+collectsOf s = when (eqb (s .run .len) 0) (collectionSound (s .completed) (collectedOf s)) (nothingOf (s .slots))
 
 unfoldable pub soundOf : Sign → Bool
-soundOf s = isLast (s .last) and runSound (s .room) (s .run) and collectsOf s
+soundOf s = completedSound (s .completed) and runSound (s .room) (s .run) and collectsOf s
 
 -- all of it but the run
 abbrev pub framedOf : Sign → Bool
-framedOf s = framedBy (s .last) (collectedOf s) (s .run .len)
+framedOf s = framedBy (s .completed) (collectedOf s) (s .run .len)

@@ -20,7 +20,7 @@ roomAfter room before after = when (not (eqb before 0) and eqb after 0) (replica
 
 -- the record with the run after a step
 abbrev pub runsOf : Sign → Run → Sign
-runsOf s run = record { last = s .last; slots = s .slots; room = roomAfter (s .room) (s .run .len) (run .len); run = run }
+runsOf s run = record { completed = s .completed; slots = s .slots; room = roomAfter (s .room) (s .run .len) (run .len); run = run }
 
 abbrev pub steppedOf : Sign → RunStepped → Stepped
 steppedOf s went = record { sign = runsOf s (went .run); answer = went .answer }

@@ -4,6 +4,7 @@ use mathlib.Core.List.{List, [], _∷_}
 use mathlib.Core.Bool.{Bool, not}
 use lib.Dec.{eqb}
 use Rattle.basis.specs.Rows.{Row, _if_}
+use Rattle.completed.specs.Completed.{lastOf}
 use Rattle.packet.specs.Mid.{midRow}
 use Rattle.packet.specs.Wire.{replyOf}
 use Rattle.packet.specs.Write.{shortBy}
@@ -17,7 +18,7 @@ busyOf s = not (eqb (s .run .len) 0)
 
 -- the reply: AUX is the caller's, not the record's drive
 abbrev pub saysOf : Sign → ℕ → Bool → List ℕ
-saysOf s mid aux = replyOf mid (s .last) (busyOf s) aux
+saysOf s mid aux = replyOf mid (lastOf (s .completed)) (busyOf s) aux
 
 -- the running body, none when Ready
 abbrev pub runningBody : Sign → List ℕ

@@ -12,14 +12,15 @@ mod steps;
 mod tell;
 
 use collect::Slots;
+use completed::Completed;
 use hear::Outcome;
 use machine::Answer;
 use machine::Run;
 
-// The record: last completed ID, the slots of the packets being collected, one room, and the running program with the settings. The
+// The record: completed IDs, the slots of the packets being collected, one room, and the running program with the settings. The
 // room holds the packets' data while Ready and the running body while Busy: Busy collects nothing, and Ready has no body.
 pub struct Sign {
-    pub last: u8,
+    pub completed: Completed,
     pub slots: Slots,
     pub room: [u8; 84],
     pub run: Run,

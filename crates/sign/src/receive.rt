@@ -102,17 +102,19 @@ impl Sign {
     pub fn receive(self, mid: u8, bytes: &[u8]) -> Received
         ensures { λ r. ⌜ r ≡ receiveOf self mid (now (bytes .entry)) ⌝ }
     {
+        let completed = self.completed;
         let slots = self.slots;
         let run = self.run;
         let mut room = self.room;
         if !run.sound(&room) {
             return self.stays(Outcome::Refused(16));
         }
-        let heard = hear(self.last, slots, self.run.len, &mut room, mid, bytes);
+        let heard = hear(completed, slots, self.run.len, &mut room, mid, bytes);
         let outcome = heard.outcome;
+        let known = heard.completed;
         let left = heard.slots;
         let next = Sign {
-            last: heard.last,
+            completed: known,
             slots: left,
             room,
             run,

@@ -2,6 +2,7 @@
 use crate::Cleared;
 use crate::Sign;
 use collect::begun;
+use completed::none;
 use hear::Outcome;
 use machine::Loop;
 use machine::Run;
@@ -33,10 +34,11 @@ pub(crate) fn rested(dim: u8, bright: u8) -> Run
 fn fresh(dim: u8, bright: u8) -> Sign
     ensures { λ r. ⌜ r ≡ freshOf dim bright ⌝ }
 {
+    let completed = none();
     let slots = begun(0, 0);
     let run = rested(dim, bright);
     Sign {
-        last: 0x41,
+        completed,
         slots,
         room: [0; 84],
         run,

@@ -1,5 +1,5 @@
-// Which records are sound (R1): the last ID (R2), and no collection when Busy (R7). The crates `collect` and `machine`
-// decide on the parts of the collection and of the run.
+// Which records are sound (R1): no collection when Busy (R7). The crates `completed`, `collect` and `machine` decide on
+// the completed IDs, the collection and the run.
 use crate::Sign;
 use hear::framed;
 ghost use mathlib.Core.Path.{_≡_};
@@ -10,9 +10,10 @@ impl Sign {
     pub fn sound(self) -> bool
         ensures { λ r. ⌜ r ≡ soundOf self ⌝ }
     {
+        let completed = self.completed;
         let slots = self.slots;
         let run = self.run;
-        if !framed(self.last, slots, &self.room, self.run.len) {
+        if !framed(completed, slots, &self.room, self.run.len) {
             return false;
         }
         run.sound(&self.room)

@@ -25,10 +25,11 @@ impl Sign {
     pub fn step(self) -> Stepped
         ensures { λ r. ⌜ r ≡ stepOf self ⌝ }
     {
+        let completed = self.completed;
         let slots = self.slots;
         let mut room = self.room;
         let run = self.run;
-        if !framed(self.last, slots, &room, self.run.len) {
+        if !framed(completed, slots, &room, self.run.len) {
             return Stepped {
                 sign: self,
                 answer: Answer::Refused(16),
@@ -39,7 +40,7 @@ impl Sign {
         let answer = went.answer;
         empty(&mut room, self.run.len, next.len);
         let sign = Sign {
-            last: self.last,
+            completed,
             slots,
             room,
             run: next,

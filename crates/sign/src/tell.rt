@@ -14,8 +14,9 @@ impl Sign {
         if !self.sound() {
             return Written::Refused(16);
         }
+        let completed = self.completed;
         let busy = self.run.len != 0;
-        write_reply(mid, self.last, busy, aux, out)
+        write_reply(mid, completed.last(), busy, aux, out)
     }
 
     // Copies the running body to the buffer's front, and tells its length.

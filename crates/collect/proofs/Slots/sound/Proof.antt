@@ -26,34 +26,37 @@ returns-3 : tie.Need-returns-3
 unfolding soundOf
 returns-3 c = search tests
 
+has-requires : tie.Need-has-requires
+has-requires c κs = search needs
+
 returns-4 : tie.Need-returns-4
 unfolding soundOf
-returns-4 c = search tests
+returns-4 c = search (tests, sym (c .before .has .ensures) ∙ c .if4 .taken)
 
 returns-5 : tie.Need-returns-5
 unfolding soundOf
-returns-5 c = search tests
+returns-5 c = search (tests, sym (c .before .before .has .ensures) ∙ c .before .if4 .left)
 
 held-requires : tie.Need-held-requires
 held-requires c κs = search needs
 
 returns-6 : tie.Need-returns-6
 unfolding soundOf
-returns-6 c = search (tests, ← (c .before .held .ensures))
+returns-6 c = search (tests, sym (c .before .before .before .before .has .ensures) ∙ c .before .before .before .if4 .left, ← (c .before .held .ensures))
 
 cast-if7 : tie.Need-cast-if7
 cast-if7 c = search needs
 
 returns-7 : tie.Need-returns-7
 unfolding soundOf
-returns-7 c = search (tests, ← (c .before .before .held .ensures))
+returns-7 c = search (tests, sym (c .before .before .before .before .before .has .ensures) ∙ c .before .before .before .before .if4 .left, ← (c .before .before .held .ensures))
 
 ruled-requires : tie.Need-ruled-requires
 ruled-requires c κs = search needs
 
 returns-8 : tie.Need-returns-8
 unfolding soundOf
-returns-8 c = search (tests, ← (c .before .before .before .before .held .ensures), c .ruled .ensures)
+returns-8 c = search (tests, sym (c .before .before .before .before .before .before .before .has .ensures) ∙ c .before .before .before .before .before .before .if4 .left, ← (c .before .before .before .before .held .ensures), c .ruled .ensures)
 
 pub sound-spec : {M : Type 1} → statement M
 sound-spec =
@@ -63,6 +66,7 @@ sound-spec =
     blank-requires
     returns-2
     returns-3
+    has-requires
     returns-4
     returns-5
     held-requires

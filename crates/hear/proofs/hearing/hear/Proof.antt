@@ -23,7 +23,7 @@ stays-requires c κs = search needs
 returns : tie.Need-returns
 returns c =
     let a = c .before .before .before .before .before .args in
-    ap (λ (h : Heard). leftOf h (a .room .now)) (c .stays .ensures) ∙ sym (unframed-hears (a .last) (collectionOf (a .slots) (a .room .now)) (a .len) (a .mid) (a .bytes .now) (sym (c .before .before .framed .ensures) ∙ not-true _ (c .before .if1 .taken)))
+    ap (λ (h : Heard). leftOf h (a .room .now)) (c .stays .ensures) ∙ sym (unframed-hears (a .completed) (collectionOf (a .slots) (a .room .now)) (a .len) (a .mid) (a .bytes .now) (sym (c .before .before .framed .ensures) ∙ not-true _ (c .before .if1 .taken)))
 
 read-packet-requires : tie.Need-read-packet-requires
 read-packet-requires c κs = search needs
@@ -71,7 +71,7 @@ join-requires c κs =
     let a = c .before .before .before .before .before .before .before .before .before .before .args in
     let g = c .before .before .before .read .given in
     let w = normal-read (a .mid) (a .bytes .now) (g .0 .0) (g .0 .1 .0) (g .0 .1 .1 .0) (g .0 .1 .1 .1 .0) (sym (c .before .before .before .before .before .read-packet .ensures) ∙ g .1) in
-    (framed-collection (a .last) (collectionOf (a .slots) (a .room .now)) (a .len) (sym (c .before .before .before .before .before .before .before .framed .ensures) ∙ not-false _ (c .before .before .before .before .before .before .if1 .left)), right-part (a .bytes .now) (g .0 .0) (g .0 .1 .0) (g .0 .1 .1 .0) (g .0 .1 .1 .1 .0) w)
+    (framed-collection (a .completed) (collectionOf (a .slots) (a .room .now)) (a .len) (sym (c .before .before .before .before .before .before .before .framed .ensures) ∙ not-false _ (c .before .before .before .before .before .before .if1 .left)), right-part (a .bytes .now) (g .0 .0) (g .0 .1 .0) (g .0 .1 .1 .0) (g .0 .1 .1 .1 .0) w)
 
 enum-known-read-2 : tie.Need-enum-known-read-2
 enum-known-read-2 c = search needs
@@ -82,12 +82,12 @@ stays-requires-3 c κs = search needs
 returns-2 : tie.Need-returns-2
 returns-2 c =
     let a = c .before .before .before .before .before .before .before .before .args in
-    hears-as (a .last) (collectionOf (a .slots) (a .room .now)) (a .len) (a .mid) (a .bytes .now) (c .before .before .before .read-packet .result) Query (leftOf (c .stays2 .result) (a .room .now)) (sym (c .before .before .before .before .before .framed .ensures) ∙ not-false _ (c .before .before .before .before .if1 .left)) (c .before .before .before .read-packet .ensures) (c .before .enum-told .given .1) (ap (λ (h : Heard). leftOf h (a .room .now)) (c .stays2 .ensures))
+    hears-as (a .completed) (collectionOf (a .slots) (a .room .now)) (a .len) (a .mid) (a .bytes .now) (c .before .before .before .read-packet .result) Query (leftOf (c .stays2 .result) (a .room .now)) (sym (c .before .before .before .before .before .framed .ensures) ∙ not-false _ (c .before .before .before .before .if1 .left)) (c .before .before .before .read-packet .ensures) (c .before .enum-told .given .1) (ap (λ (h : Heard). leftOf h (a .room .now)) (c .stays2 .ensures))
 
 returns-3 : tie.Need-returns-3
 returns-3 c =
     let a = c .before .before .before .before .before .before .before .before .before .args in
-    hears-as (a .last) (collectionOf (a .slots) (a .room .now)) (a .len) (a .mid) (a .bytes .now) (c .before .before .before .before .read-packet .result) Reset (leftOf (c .cleared .result) (c .cleared .last .0)) (sym (c .before .before .before .before .before .before .framed .ensures) ∙ not-false _ (c .before .before .before .before .before .if1 .left)) (c .before .before .before .before .read-packet .ensures) (c .before .before .enum-told2 .given .1) (c .cleared .ensures)
+    hears-as (a .completed) (collectionOf (a .slots) (a .room .now)) (a .len) (a .mid) (a .bytes .now) (c .before .before .before .before .read-packet .result) Reset (leftOf (c .cleared .result) (c .cleared .last .0)) (sym (c .before .before .before .before .before .before .framed .ensures) ∙ not-false _ (c .before .before .before .before .before .if1 .left)) (c .before .before .before .before .read-packet .ensures) (c .before .before .enum-told2 .given .1) (c .cleared .ensures)
 
 returns-4 : tie.Need-returns-4
 returns-4 c =
@@ -95,13 +95,13 @@ returns-4 c =
     let g = c .before .before .before .before .read .given in
     let k = collectionOf (a .slots) (a .room .now) in
     let e : 5 + g .0 .1 .1 .1 .0 - 5 ≡ g .0 .1 .1 .1 .0 = omega arith in
-    hears-as (a .last) k (a .len) (a .mid) (a .bytes .now) (c .before .before .before .before .before .before .read-packet .result) (Normal (g .0 .0) (g .0 .1 .0) (g .0 .1 .1 .0) (g .0 .1 .1 .1 .0)) (leftOf (c .join .result) (c .join .last .1 .1 .1 .0)) (sym (c .before .before .before .before .before .before .before .before .framed .ensures) ∙ not-false _ (c .before .before .before .before .before .before .before .if1 .left)) (c .before .before .before .before .before .before .read-packet .ensures) (g .1)
-    (c .join .ensures ∙ ap (λ (n : ℕ). joinBy (stayOf (a .last) k) (countOf (a .last)) (a .last) k (a .len) (g .0 .0) (g .0 .1 .0) (g .0 .1 .1 .0) (take n (drop 5 (a .bytes .now)))) e)
+    hears-as (a .completed) k (a .len) (a .mid) (a .bytes .now) (c .before .before .before .before .before .before .read-packet .result) (Normal (g .0 .0) (g .0 .1 .0) (g .0 .1 .1 .0) (g .0 .1 .1 .1 .0)) (leftOf (c .join .result) (c .join .last .1 .1 .1 .0)) (sym (c .before .before .before .before .before .before .before .before .framed .ensures) ∙ not-false _ (c .before .before .before .before .before .before .before .if1 .left)) (c .before .before .before .before .before .before .read-packet .ensures) (g .1)
+    (c .join .ensures ∙ ap (λ (n : ℕ). joinBy (stayOf (a .completed) k) (countOf (a .completed)) (a .completed) k (a .len) (g .0 .0) (g .0 .1 .0) (g .0 .1 .1 .0) (take n (drop 5 (a .bytes .now)))) e)
 
 returns-5 : tie.Need-returns-5
 returns-5 c =
     let a = c .before .before .before .before .before .before .before .before .before .args in
-    hears-as (a .last) (collectionOf (a .slots) (a .room .now)) (a .len) (a .mid) (a .bytes .now) (c .before .before .before .before .read-packet .result) (Refused (c .before .before .read2 .given .0 .0)) (leftOf (c .stays3 .result) (a .room .now)) (sym (c .before .before .before .before .before .before .framed .ensures) ∙ not-false _ (c .before .before .before .before .before .if1 .left)) (c .before .before .before .before .read-packet .ensures) (c .before .before .read2 .given .1) (ap (λ (h : Heard). leftOf h (a .room .now)) (c .stays3 .ensures))
+    hears-as (a .completed) (collectionOf (a .slots) (a .room .now)) (a .len) (a .mid) (a .bytes .now) (c .before .before .before .before .read-packet .result) (Refused (c .before .before .read2 .given .0 .0)) (leftOf (c .stays3 .result) (a .room .now)) (sym (c .before .before .before .before .before .before .framed .ensures) ∙ not-false _ (c .before .before .before .before .before .if1 .left)) (c .before .before .before .before .read-packet .ensures) (c .before .before .read2 .given .1) (ap (λ (h : Heard). leftOf h (a .room .now)) (c .stays3 .ensures))
 
 pub hear-spec : {M : Type 1} → statement M
 hear-spec =

@@ -42,7 +42,7 @@ returns-3 : tie.Need-returns-3
 returns-3 c =
     let a = c .before .before .before .before .before .before .before .before .before .before .args in
     let k = collectionOf (a .slots) (a .room .now) in
-    goes-by (stayOf (a .last) k) (countOf (a .last)) k (a .total) (a .position) (a .part .now) (c .before .before .before .before .before .before .if1 .left) (c .before .before .before .before .before .if2 .left) (c .before .before .holds .result) true (leftOf (c .stays2 .result) (a .room .now)) (c .before .before .holds .ensures) (c .before .if3 .taken) (ap (λ (h : Heard). leftOf h (a .room .now)) (c .stays2 .ensures))
+    goes-by (stayOf (a .completed) k) (countOf (a .completed)) k (a .total) (a .position) (a .part .now) (c .before .before .before .before .before .before .if1 .left) (c .before .before .before .before .before .if2 .left) (c .before .before .holds .result) true (leftOf (c .stays2 .result) (a .room .now)) (c .before .before .holds .ensures) (c .before .if3 .taken) (ap (λ (h : Heard). leftOf h (a .room .now)) (c .stays2 .ensures))
 
 stays-requires-3 : tie.Need-stays-requires-3
 stays-requires-3 c κs = search needs
@@ -51,7 +51,7 @@ returns-4 : tie.Need-returns-4
 returns-4 c =
     let a = c .before .before .before .before .before .before .before .before .before .before .args in
     let k = collectionOf (a .slots) (a .room .now) in
-    goes-by (stayOf (a .last) k) (countOf (a .last)) k (a .total) (a .position) (a .part .now) (c .before .before .before .before .before .before .if1 .left) (c .before .before .before .before .before .if2 .left) (c .before .before .holds .result) false (leftOf (c .stays3 .result) (a .room .now)) (c .before .before .holds .ensures) (c .before .if3 .left) (ap (λ (h : Heard). leftOf h (a .room .now)) (c .stays3 .ensures))
+    goes-by (stayOf (a .completed) k) (countOf (a .completed)) k (a .total) (a .position) (a .part .now) (c .before .before .before .before .before .before .if1 .left) (c .before .before .before .before .before .if2 .left) (c .before .before .holds .result) false (leftOf (c .stays3 .result) (a .room .now)) (c .before .before .holds .ensures) (c .before .if3 .left) (ap (λ (h : Heard). leftOf h (a .room .now)) (c .stays3 .ensures))
 
 pub goes-into-spec : {M : Type 1} → statement M
 goes-into-spec =

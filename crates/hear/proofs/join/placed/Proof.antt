@@ -41,7 +41,7 @@ returns c =
     let x = c .before .before .before .before .fill .last .0 in
     let n : Collection = record { id = a .slots .id; total = a .slots .total; lens = set (a .slots .lens) (a .position) (length (a .part .now)); room = x } in
     let less : heldOf (n .lens) < n .total = omega (arith, c .before .before .held .ensures, c .before .if1 .taken) in
-    counted-less (a .last) n (storedOf k (a .position) (a .part .now)) (leftOf (c .stays .result) x) (stored-is k (a .position) (a .part .now) x (c .before .before .before .before .fill .ensures)) less (ap (λ (h : Heard). leftOf h x) (c .stays .ensures))
+    counted-less (a .completed) n (storedOf k (a .position) (a .part .now)) (leftOf (c .stays .result) x) (stored-is k (a .position) (a .part .now) x (c .before .before .before .before .fill .ensures)) less (ap (λ (h : Heard). leftOf h x) (c .stays .ensures))
 
 released-requires : tie.Need-released-requires
 released-requires c κs =
@@ -65,7 +65,7 @@ returns-2 c =
     let n : Collection = record { id = a .slots .id; total = a .slots .total; lens = set (a .slots .lens) (a .position) (length (a .part .now)); room = x } in
     let e = stored-is k (a .position) (a .part .now) x (c .before .before .before .before .before .before .fill .ensures) in
     let all : n .total ≤ heldOf (n .lens) = omega (arith, c .before .before .before .before .held .ensures, c .before .before .before .if1 .left) in
-    counted-full (a .last) n (storedOf k (a .position) (a .part .now)) (leftOf (c .released .result) x) e all (c .released .ensures)
+    counted-full (a .completed) n (storedOf k (a .position) (a .part .now)) (leftOf (c .released .result) x) e all (c .released .ensures)
 
 pub placed-spec : {M : Type 1} → statement M
 placed-spec =

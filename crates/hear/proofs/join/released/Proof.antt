@@ -2,9 +2,10 @@
 use Prim.Native.Nat.{ℕ, _+_, _-_, _*_}
 use mathlib.Core.Path.{_≡_, sym, ap, _∙_}
 use native.Mathlib.Omega.{arith}
-use lib.ListN.{length, getD}
+use lib.ListN.{length, getD, replicate}
 use lib.Seq.{length-take-le}
 use Rattle.judge.specs.Verdict.{judgeOf}
+use Rattle.completed.specs.declared.Completed.{Completed}
 use Rattle.collect.specs.Slots.{begunOf, collectionOf}
 use Rattle.collect.specs.declared.Slots.{Slots}
 use Rattle.hear.specs.Join.{Left, wholeOf}
@@ -44,20 +45,25 @@ slice-aggregate-judge c =
 judge-requires : tie.Need-judge-requires
 judge-requires c κs = search needs
 
+with-requires : tie.Need-with-requires
+with-requires c κs = search needs
+
 begun-requires : tie.Need-begun-requires
 begun-requires c κs = search needs
 
 returns : tie.Need-returns
 unfolding begunOf
 returns c =
-    let a = c .before .before .before .before .before .before .args in
+    let a = c .before .before .before .before .before .before .before .args in
     let k = collectionOf (a .slots) (a .room .now) in
     let l : length (a .slots .lens) ≡ 6 = search needs in
-    let r = c .before .before .before .before .before .before .pre .1 in
-    let w = c .before .before .before .before .before .before .pre .0 in
+    let r = c .before .before .before .before .before .before .before .pre .1 in
+    let w = c .before .before .before .before .before .before .before .pre .0 in
     let n = 14 * (a .slots .total - 1) + getD (a .slots .lens) (a .slots .total - 1) 0 in
-    ap (λ (s : Slots). record { outcome = Released (c .before .judge .result); last = a .slots .id; collection = collectionOf s (a .room .now); len = n }) (c .begun .ensures)
-    ∙ whole-left k (c .before .judge .result) n (whole-room k l r w) (c .before .judge .ensures ∙ ap judgeOf (whole-body k l r w)) (sym (whole-size k l r w))
+    let v = c .before .before .judge .result in
+    ap (λ (s : Slots). record { outcome = Released v; completed = c .before .with .result; collection = collectionOf s (a .room .now); len = n }) (c .begun .ensures)
+    ∙ ap (λ (d : Completed). record { outcome = Released v; completed = d; collection = record { id = 0; total = 0; lens = replicate 6 0; room = a .room .now }; len = n }) (c .before .with .ensures)
+    ∙ whole-left (a .completed) k v n (whole-room k l r w) (c .before .before .judge .ensures ∙ ap judgeOf (whole-body k l r w)) (sym (whole-size k l r w))
 
 pub released-spec : {M : Type 1} → statement M
 released-spec =
@@ -71,5 +77,6 @@ released-spec =
     add-len
     slice-aggregate-judge
     judge-requires
+    with-requires
     begun-requires
     returns)

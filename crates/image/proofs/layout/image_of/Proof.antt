@@ -67,12 +67,12 @@ part-image-end c = search needs
 
 copy-requires : tie.Need-copy-requires
 copy-requires c κs =
-    let l : length (c .before .before .before .before .before .before .before .before .before .before .args .sign .room) ≡ 84 = search needs in
+    let l : length (c .before .before .before .before .before .before .before .before .before .before .before .args .sign .room) ≡ 84 = search needs in
     omega arith
 
 slice-aggregate-copy-2 : tie.Need-slice-aggregate-copy-2
 slice-aggregate-copy-2 c =
-    let l : length (c .before .before .before .before .before .before .before .before .before .before .before .before .before .args .sign .slots .lens) ≡ 6 = search (needs, c .before .before .before .before .before .before .before .before .before .before .before .before .before .good .0) in
+    let l : length (c .before .before .before .before .before .before .before .before .before .before .before .before .before .before .args .sign .slots .lens) ≡ 6 = search (needs, c .before .before .before .before .before .before .before .before .before .before .before .before .before .before .good .0) in
     omega arith
 
 sub-copy-2 : tie.Need-sub-copy-2
@@ -86,15 +86,15 @@ part-image-end-2 c = search needs
 
 copy-requires-2 : tie.Need-copy-requires-2
 copy-requires-2 c κs =
-    let l : length (c .before .before .before .before .before .before .before .before .before .before .before .before .before .before .args .sign .slots .lens) ≡ 6 = search (needs, c .before .before .before .before .before .before .before .before .before .before .before .before .before .before .good .0) in
+    let l : length (c .before .before .before .before .before .before .before .before .before .before .before .before .before .before .before .args .sign .slots .lens) ≡ 6 = search (needs, c .before .before .before .before .before .before .before .before .before .before .before .before .before .before .before .good .0) in
     omega arith
 
 returns : tie.Need-returns
 unfolding imageOf
 returns c =
-    let a = c .before .before .before .before .before .before .before .before .before .before .before .before .before .before .before .before .args .sign in
-    let lens : length (a .slots .lens) ≡ 6 = search (needs, c .before .before .before .before .before .before .before .before .before .before .before .before .before .before .before .before .good .0) in
-    let room : length (a .room) ≡ 84 = search (needs, c .before .before .before .before .before .before .before .before .before .before .before .before .before .before .before .before .good .0) in
+    let a = c .before .before .before .before .before .before .before .before .before .before .before .before .before .before .before .before .before .args .sign in
+    let lens : length (a .slots .lens) ≡ 6 = search (needs, c .before .before .before .before .before .before .before .before .before .before .before .before .before .before .before .before .before .good .0) in
+    let room : length (a .room) ≡ 84 = search (needs, c .before .before .before .before .before .before .before .before .before .before .before .before .before .before .before .before .before .good .0) in
     rw (filled (a .slots .lens) _ _ lens (c .before .copy2 .ensures .1), filled (a .room) _ _ room (c .before .before .before .before .before .copy .ensures .1))
 
 pub image-of-spec : {M : Type 1} → statement M

@@ -57,23 +57,23 @@ array-read-behind c = search needs
 cast-behind : tie.Need-cast-behind
 cast-behind c = search needs
 
-array-read-t28 : tie.Need-array-read-t28
-array-read-t28 c = search needs
+array-read-t29 : tie.Need-array-read-t29
+array-read-t29 c = search needs
 
-array-read-t37 : tie.Need-array-read-t37
-array-read-t37 c = search needs
+array-read-t29-2 : tie.Need-array-read-t29-2
+array-read-t29-2 c = search needs
 
-array-read-t28-2 : tie.Need-array-read-t28-2
-array-read-t28-2 c = search needs
+array-read-t40 : tie.Need-array-read-t40
+array-read-t40 c = search needs
 
-array-read-t37-2 : tie.Need-array-read-t37-2
-array-read-t37-2 c = search needs
+array-read-t29-3 : tie.Need-array-read-t29-3
+array-read-t29-3 c = search needs
 
-array-read-t28-3 : tie.Need-array-read-t28-3
-array-read-t28-3 c = search needs
+array-read-t40-2 : tie.Need-array-read-t40-2
+array-read-t40-2 c = search needs
 
-array-read-t47 : tie.Need-array-read-t47
-array-read-t47 c = search needs
+array-read-t29-4 : tie.Need-array-read-t29-4
+array-read-t29-4 c = search needs
 
 array-read-t50 : tie.Need-array-read-t50
 array-read-t50 c = search needs
@@ -81,8 +81,8 @@ array-read-t50 c = search needs
 array-read-t53 : tie.Need-array-read-t53
 array-read-t53 c = search needs
 
-array-read-t37-3 : tie.Need-array-read-t37-3
-array-read-t37-3 c = search needs
+array-read-t56 : tie.Need-array-read-t56
+array-read-t56 c = search needs
 
 returns : tie.Need-returns
 unfolding recordOf
@@ -114,13 +114,13 @@ record-of-spec =
     cast-place
     array-read-behind
     cast-behind
-    array-read-t28
-    array-read-t37
-    array-read-t28-2
-    array-read-t37-2
-    array-read-t28-3
-    array-read-t47
+    array-read-t29
+    array-read-t29-2
+    array-read-t40
+    array-read-t29-3
+    array-read-t40-2
+    array-read-t29-4
     array-read-t50
     array-read-t53
-    array-read-t37-3
+    array-read-t56
     returns)

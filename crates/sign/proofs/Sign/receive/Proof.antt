@@ -18,7 +18,7 @@ stays-requires c κs = search needs
 
 returns : tie.Need-returns
 returns c =
-    let a = c .before .before .before .before .before .before .before .before .args in
+    let a = c .before .before .before .before .before .before .before .before .before .args in
     c .stays .ensures ∙ sym (unsound-run (a .self) (a .mid) (a .bytes .now) (sym (c .before .before .sound .ensures) ∙ not-true _ (c .before .if1 .taken)))
 
 hear-requires : tie.Need-hear-requires
@@ -29,9 +29,9 @@ after-requires c κs = search needs
 
 returns-2 : tie.Need-returns-2
 returns-2 c =
-    let a = c .before .before .before .before .before .before .before .before .before .before .before .args in
-    let h = c .before .before .hear in
-    received-is (a .self) (a .mid) (a .bytes .now) (leftOf (h .result) (h .last .1 .1 .1 .0)) (c .after .result) (sym (c .before .before .before .before .before .sound .ensures) ∙ not-false _ (c .before .before .before .before .if1 .left)) (h .ensures) (c .after .ensures)
+    let a = c .before .before .before .before .before .before .before .before .before .before .before .before .before .args in
+    let h = c .before .before .before .hear in
+    received-is (a .self) (a .mid) (a .bytes .now) (leftOf (h .result) (h .last .1 .1 .1 .0)) (c .after .result) (sym (c .before .before .before .before .before .before .sound .ensures) ∙ not-false _ (c .before .before .before .before .before .if1 .left)) (h .ensures) (c .after .ensures)
 
 pub receive-spec : {M : Type 1} → statement M
 receive-spec =

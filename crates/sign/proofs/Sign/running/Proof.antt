@@ -11,7 +11,7 @@ start-requires c κs = search needs
 returns : tie.Need-returns
 returns c =
     let s = c .before .before .args .self in
-    ap (λ (x : Run). record { last = s .last; slots = s .slots; room = s .room; run = x }) (c .start .ensures)
+    ap (λ (x : Run). record { completed = s .completed; slots = s .slots; room = s .room; run = x }) (c .start .ensures)
 
 pub running-spec : {M : Type 1} → statement M
 running-spec = tie.close (tie.spec start-requires returns)

@@ -13,7 +13,7 @@ framed-requires : tie.Need-framed-requires
 framed-requires c κs = search needs
 
 returns : tie.Need-returns
-returns c = sym (unframed-steps (c .before .before .before .before .before .before .args .self) (sym (c .before .framed .ensures) ∙ not-true _ (c .if1 .taken)))
+returns c = sym (unframed-steps (c .before .before .before .before .before .before .before .args .self) (sym (c .before .framed .ensures) ∙ not-true _ (c .if1 .taken)))
 
 slice-aggregate-step : tie.Need-slice-aggregate-step
 slice-aggregate-step c = search needs
@@ -26,9 +26,9 @@ empty-requires c κs = search needs
 
 returns-2 : tie.Need-returns-2
 returns-2 c =
-    let s = c .before .before .before .before .before .before .before .before .before .before .before .args .self in
+    let s = c .before .before .before .before .before .before .before .before .before .before .before .before .args .self in
     let w = c .before .before .before .step .result in
-    ap (λ (x : List ℕ). record { sign = record { last = s .last; slots = s .slots; room = x; run = w .run }; answer = w .answer }) (c .empty .ensures)
+    ap (λ (x : List ℕ). record { sign = record { completed = s .completed; slots = s .slots; room = x; run = w .run }; answer = w .answer }) (c .empty .ensures)
     ∙ ap (steppedOf s) (c .before .before .before .step .ensures)
     ∙ sym (framed-steps s (sym (c .before .before .before .before .before .before .framed .ensures) ∙ not-false _ (c .before .before .before .before .before .if1 .left)))
 

@@ -1,4 +1,4 @@
-/* Yurodekapi for C, version 1.2: the calls of the message unit over numbers and lent bytes.
+/* Yurodekapi for C, version 1.3: the calls of the message unit over numbers and lent bytes.
  *
  * Language. C99 or later, or C++11 or later. Link with target/staticlib/libcabi.a, which `rt staticlib cabi` writes.
  *
@@ -31,7 +31,7 @@
 
 /* The version of this header. yd_version has the archive's. */
 #define YD_VERSION_MAJOR 1
-#define YD_VERSION_MINOR 2
+#define YD_VERSION_MINOR 3
 #define YD_VERSION_PATCH 0
 #define YD_VERSION (YD_VERSION_MAJOR * 65536u + YD_VERSION_MINOR * 256u + YD_VERSION_PATCH)
 
@@ -112,7 +112,7 @@ enum {
     YD_PACKET_SIZE = 21,        /* the longest packet */
     YD_TRANSMISSION_SIZE = 126, /* the longest transmission: six full packets */
     YD_REPLY_SIZE = 8,          /* a reply */
-    YD_IMAGE_SIZE = 102,        /* a sign's image */
+    YD_IMAGE_SIZE = 106,        /* a sign's image */
     YD_PACKET_ANSWER_SIZE = 20,
     YD_REPLY_ANSWER_SIZE = 12,
     YD_FORECAST_ANSWER_SIZE = 24,
@@ -240,29 +240,35 @@ static inline void yd_get_forecast(const uint8_t *answer, struct yd_forecast_ans
 
 /* The sign: its record is an image of YD_IMAGE_SIZE bytes that the caller keeps. An image of another size is 251, an unsound one 16.
  * One room holds the collected packets while the sign is Ready and the running body while it is Busy: it never needs both at once.
- * While Ready, the data of position p stand from byte 9 + 14p on. While Busy, the body stands from byte 9 on, and the ID being
+ * While Ready, the data of position p stand from byte 13 + 14p on. While Busy, the body stands from byte 13 on, and the ID being
  * collected, its total and all six lengths are 0. Room that is not used is zeros; anything else there is unsound.
+ * The sign remembers the last four IDs that it completed since its reset, and a packet of any of them is a Repeat.
  * A sound record has one image only, so a query, a Repeat and an Idle step change no byte of it. The layout belongs to this version. */
 enum {
-    YD_AT_LAST = 0,        /* last completed ID, 41h after a reset */
-    YD_AT_ID = 1,          /* ID being collected, 0 if none */
-    YD_AT_TOTAL = 2,       /* its packet total, 0 if none */
-    YD_AT_LENS = 3,        /* data length by position, 6 bytes; 0 is not held */
-    YD_AT_ROOM = 9,        /* collected packets or running body, 84 bytes */
-    YD_AT_LENGTH = 93,     /* length of the running body; 0 is Ready, all else is Busy */
-    YD_AT_PLACE = 94,      /* place of the next command */
-    YD_AT_LOOP_PLACE = 95, /* place after the open L, 0 outside loops */
-    YD_AT_LOOP_LEFT = 96,  /* passes left, this one counted, 0 outside loops */
-    YD_AT_PACE = 97,
-    YD_AT_SCANS = 98,      /* scan setting: scans per shift */
-    YD_AT_SINK = 99,       /* AUX drive: 0 floats, 1 sinks; all else is unsound */
-    YD_AT_DIM = 100,       /* dim threshold */
-    YD_AT_BRIGHT = 101     /* forced brightness, 0 if none */
+    YD_AT_COUNT = 0,       /* how many completed IDs there are, 0 to 4 */
+    YD_AT_COMPLETED = 1,   /* the completed IDs, newest first, 4 bytes */
+    YD_AT_ID = 5,          /* ID being collected, 0 if none */
+    YD_AT_TOTAL = 6,       /* its packet total, 0 if none */
+    YD_AT_LENS = 7,        /* data length by position, 6 bytes; 0 is not held */
+    YD_AT_ROOM = 13,       /* collected packets or running body, 84 bytes */
+    YD_AT_LENGTH = 97,     /* length of the running body; 0 is Ready, all else is Busy */
+    YD_AT_PLACE = 98,      /* place of the next command */
+    YD_AT_LOOP_PLACE = 99, /* place after the open L, 0 outside loops */
+    YD_AT_LOOP_LEFT = 100, /* passes left, this one counted, 0 outside loops */
+    YD_AT_PACE = 101,
+    YD_AT_SCANS = 102,     /* scan setting: scans per shift */
+    YD_AT_SINK = 103,      /* AUX drive: 0 floats, 1 sinks; all else is unsound */
+    YD_AT_DIM = 104,       /* dim threshold */
+    YD_AT_BRIGHT = 105     /* forced brightness, 0 if none */
 };
 
 /* 1 if the sign of this image is Busy, 0 if it is Ready. It reads one byte, and takes the image for sound. */
 YD_NOT_NULL
 static inline int yd_is_busy(const uint8_t *image) { return image[YD_AT_LENGTH] != 0; }
+
+/* The last completed ID of the sign of this image, 41h if it has completed none since its reset. It takes the image for sound. */
+YD_NOT_NULL
+static inline uint8_t yd_last_completed(const uint8_t *image) { return image[YD_AT_COUNT] == 0 ? 0x41 : image[YD_AT_COMPLETED]; }
 
 /* Make the image of a sign that was just switched on, whatever it held. No: 251. */
 YD_USE_RESULT YD_NOT_NULL
@@ -276,7 +282,7 @@ uint32_t yd_reset(uint8_t *image, size_t image_len);
 enum {
     YD_DID_QUERY = 1,  /* answer it with yd_reply; the image stays */
     YD_DID_RESET = 2,  /* the image is already reset: yd_reset isn't needed */
-    YD_DID_REPEAT = 3, /* held or completed already; the image stays */
+    YD_DID_REPEAT = 3, /* held already, or of one of the completed IDs; the image stays */
     YD_DID_STORE = 4,  /* kept; more packets are missing */
     YD_DID_RELEASE = 5 /* all packets are there: the sign is Busy if the body is an accepted program, Ready if not */
 };
@@ -394,6 +400,7 @@ YD_SAME(sizeof(size_t), sizeof(void *));
 YD_SAME(YD_PACKET_ANSWER_SIZE, 4 * (YD_WORD_PACKET_LENGTH + 1));
 YD_SAME(YD_REPLY_ANSWER_SIZE, 4 * (YD_WORD_REPLY_AUX + 1));
 YD_SAME(YD_FORECAST_ANSWER_SIZE, 4 * (YD_WORD_FORECAST_SCAN_SETTING + 1));
+YD_SAME(YD_AT_ID, YD_AT_COMPLETED + 4);
 YD_SAME(YD_AT_ROOM, YD_AT_LENS + 6);
 YD_SAME(YD_AT_LENGTH - YD_AT_ROOM, YD_BODY_SIZE);
 YD_SAME(YD_IMAGE_SIZE, YD_AT_BRIGHT + 1);

@@ -120,6 +120,9 @@ int main(void)
 
     printf("the next line:\n");
     deliver_line(image, &second, YD_YES);
+    printf("an even later copy of the line before:\n");
+    deliver_line(image, &first, YD_YES);
+    tell_reply(image);
     while (yd_is_busy(image))
         step(image);
     return 0;

@@ -1,69 +1,10 @@
 /* Every call of the header, held to the rules: each number for no that a call can give, in its order, and the rules' examples.
+ * The tests of the completed IDs stand in completed.c.
  * What a call must say is written here by hand. A refused call must leave every lent byte as it was.
  * It is C99 and C++17 alike. It prints what fails and a last line with the number of checks, and exits with 1 if a check failed. */
-#include <stdio.h>
 #include <string.h>
 
-#include "yurodekapi.h"
-
-/* The sign of the tests, but for those about MIDs, and what lent bytes hold before a call. */
-static const uint8_t sign_mid = 0x80;
-static const uint8_t filler = 0xA5;
-
-static unsigned checks = 0;
-static unsigned failed = 0;
-
-/* One check: what must be so. Every failure names the line of the test that asked. */
-static void check(int line, const char *what, uint32_t is, uint32_t must)
-{
-    checks++;
-    if (is == must)
-        return;
-    failed++;
-    fprintf(stderr, "tests/c/calls.c:%d: %s is %lu, must be %lu\n", line, what, (unsigned long)is, (unsigned long)must);
-}
-
-/* One check of a row of bytes. */
-static void check_bytes(int line, const char *what, const uint8_t *is, const uint8_t *must, size_t length)
-{
-    size_t at = 0;
-    checks++;
-    while (at < length && is[at] == must[at])
-        at++;
-    if (at == length)
-        return;
-    failed++;
-    fprintf(stderr, "tests/c/calls.c:%d: %s: byte %lu is %02X, must be %02X\n", line, what, (unsigned long)at, is[at], must[at]);
-}
-
-/* One check that a row of bytes is as it was filled. */
-static void check_filled(int line, const char *what, const uint8_t *is, size_t length)
-{
-    uint8_t must[256];
-    memset(must, filler, sizeof must);
-    check_bytes(line, what, is, must, length);
-}
-
-static void fill(uint8_t *bytes, size_t length)
-{
-    memset(bytes, filler, length);
-}
-
-#define CHECK(is, must) check(__LINE__, #is, is, must)
-
-/* The result of a yes with this value, and of a no with this place. */
-static uint32_t yes(uint32_t value)
-{
-    return value * 256;
-}
-
-static uint32_t no(uint32_t number, uint32_t place)
-{
-    return place * 256 + number;
-}
-
-/* A string's bytes and their number, as two arguments. */
-#define BYTES(string) (const uint8_t *)(string), sizeof(string) - 1
+#include "checks.h"
 
 /* Names against the rules' numbers. */
 
@@ -112,14 +53,31 @@ static void sizes(void)
     CHECK(YD_PACKET_SIZE, 21);
     CHECK(YD_TRANSMISSION_SIZE, 126);
     CHECK(YD_REPLY_SIZE, 8);
-    CHECK(YD_IMAGE_SIZE, 102);
+    CHECK(YD_IMAGE_SIZE, 106);
     CHECK(YD_PACKET_ANSWER_SIZE, 20);
     CHECK(YD_REPLY_ANSWER_SIZE, 12);
     CHECK(YD_FORECAST_ANSWER_SIZE, 24);
     CHECK(YD_RECEIVE_ANSWER_SIZE, 100);
     CHECK(YD_STEP_ANSWER_SIZE, 28);
-    CHECK(YD_AT_LENGTH, 93);
-    CHECK(YD_AT_BRIGHT, 101);
+}
+
+static void offsets(void)
+{
+    CHECK(YD_AT_COUNT, 0);
+    CHECK(YD_AT_COMPLETED, 1);
+    CHECK(YD_AT_ID, 5);
+    CHECK(YD_AT_TOTAL, 6);
+    CHECK(YD_AT_LENS, 7);
+    CHECK(YD_AT_ROOM, 13);
+    CHECK(YD_AT_LENGTH, 97);
+    CHECK(YD_AT_PLACE, 98);
+    CHECK(YD_AT_LOOP_PLACE, 99);
+    CHECK(YD_AT_LOOP_LEFT, 100);
+    CHECK(YD_AT_PACE, 101);
+    CHECK(YD_AT_SCANS, 102);
+    CHECK(YD_AT_SINK, 103);
+    CHECK(YD_AT_DIM, 104);
+    CHECK(YD_AT_BRIGHT, 105);
 }
 
 /* The functions of the header itself, and the version. */
@@ -130,8 +88,8 @@ static void results(void)
     CHECK(yd_value(0x123415u), 0x1234);
     CHECK(yd_value(0xFFFFFF00u), 0xFFFFFF);
     CHECK(yd_word(words, 1), 0xF2345678u);
-    CHECK(YD_VERSION, 66048);
-    CHECK(yd_version(), yes(66048));
+    CHECK(YD_VERSION, 66304);
+    CHECK(yd_version(), yes(66304));
     CHECK(yd_value(yd_version()), YD_VERSION);
 }
 
@@ -238,8 +196,6 @@ static void read_packet(void)
     CHECK(yd_word(answer, YD_WORD_PACKET_WHAT), 1);
 }
 
-static const uint8_t query[] = { 0x80, 0x7F, 0x07, 0x40, 0x10, 0x00, 0xAA };
-static const uint8_t reset[] = { 0x80, 0x7F, 0x07, 0x41, 0x10, 0x00, 0xA9 };
 static const uint8_t hi_packet[] = { 0x80, 0x7F, 0x0C, 0x05, 0x10, 0x5E, 0x49, 0x49, 0x48, 0x49, 0x00, 0x5F };
 
 /* ^IIABCDEFGHIJKL is 15 bytes: two packets, the second with one byte. Then the second with another byte and with one more, the first with
@@ -644,17 +600,23 @@ static void forecast_no(void)
 static void just_on(uint8_t *image)
 {
     memset(image, 0, YD_IMAGE_SIZE);
-    image[YD_AT_LAST] = 0x41;
     image[YD_AT_PACE] = 4;
     image[YD_AT_SCANS] = 1;
     image[YD_AT_DIM] = 16;
+}
+
+/* The one ID that a sign has completed. */
+static void completed_one(uint8_t *image, uint8_t id)
+{
+    image[YD_AT_COUNT] = 1;
+    image[YD_AT_COMPLETED] = id;
 }
 
 /* A Busy sign: this body, just switched on and then released under number 5, at its first command. */
 static void running(uint8_t *image, const char *body)
 {
     just_on(image);
-    image[YD_AT_LAST] = 5;
+    completed_one(image, 5);
     memcpy(image + YD_AT_ROOM, body, strlen(body));
     image[YD_AT_LENGTH] = (uint8_t)strlen(body);
 }
@@ -666,38 +628,17 @@ static void power_on(void)
     just_on(must);
     fill(image, sizeof image);
     CHECK(yd_power_on(image, 0), 251);
-    CHECK(yd_power_on(image, 101), 251);
-    CHECK(yd_power_on(image, 103), 251);
+    CHECK(yd_power_on(image, 105), 251);
+    CHECK(yd_power_on(image, 107), 251);
     check_filled(__LINE__, "image", image, sizeof image);
-    CHECK(yd_power_on(image, 102), 0);
+    CHECK(yd_power_on(image, 106), 0);
     check_bytes(__LINE__, "image", image, must, sizeof must);
-    check_filled(__LINE__, "byte after it", image + 102, 1);
+    check_filled(__LINE__, "byte after it", image + 106, 1);
     CHECK((uint32_t)yd_is_busy(image), 0);
     running(image, "^W5");
     CHECK((uint32_t)yd_is_busy(image), 1);
-    CHECK(yd_power_on(image, 102), 0);
+    CHECK(yd_power_on(image, 106), 0);
     check_bytes(__LINE__, "image", image, must, sizeof must);
-}
-
-/* Every call that takes a sound image, on one of these bytes: all must say this number, also with all else wrong, and change nothing. */
-static void all_refuse(int line, const uint8_t *record, size_t length, uint32_t number)
-{
-    uint8_t image[YD_IMAGE_SIZE + 1];
-    uint8_t lent[YD_RECEIVE_ANSWER_SIZE];
-    memcpy(image, record, length);
-    fill(lent, sizeof lent);
-    check(line, "yd_reset", yd_reset(image, length), number);
-    check(line, "yd_receive", yd_receive(image, length, sign_mid, query, sizeof query, lent, sizeof lent), number);
-    check(line, "yd_receive", yd_receive(image, length, sign_mid, reset, sizeof reset, lent, sizeof lent), number);
-    check(line, "yd_receive", yd_receive(image, length, sign_mid, query, 0, lent, 0), number);
-    check(line, "yd_step", yd_step(image, length, lent, sizeof lent), number);
-    check(line, "yd_step", yd_step(image, length, lent, 0), number);
-    check(line, "yd_reply", yd_reply(image, length, sign_mid, YD_AUX_FLOAT, lent, sizeof lent), number);
-    check(line, "yd_reply", yd_reply(image, length, sign_mid, YD_AUX_FLOAT, lent, 0), number);
-    check(line, "yd_copy_body", yd_copy_body(image, length, lent, sizeof lent), number);
-    check(line, "yd_copy_body", yd_copy_body(image, length, lent, 0), number);
-    check_bytes(line, "image", image, record, length);
-    check_filled(line, "lent bytes", lent, sizeof lent);
 }
 
 static void wrong_size(void)
@@ -706,10 +647,10 @@ static void wrong_size(void)
     just_on(image);
     image[YD_IMAGE_SIZE] = 0;
     all_refuse(__LINE__, image, 0, 251);
-    all_refuse(__LINE__, image, 101, 251);
-    all_refuse(__LINE__, image, 103, 251);
+    all_refuse(__LINE__, image, 105, 251);
+    all_refuse(__LINE__, image, 107, 251);
     fill(image, sizeof image);
-    all_refuse(__LINE__, image, 101, 251);
+    all_refuse(__LINE__, image, 105, 251);
 }
 
 /* A byte of an image, and a value that makes it unsound. */
@@ -735,7 +676,7 @@ static void all_spoiled(int line, const uint8_t *sound, const struct spoiled *ro
 static void unsound_ready(void)
 {
     static const struct spoiled rows[] = {
-        { YD_AT_LAST, 0x40 },     { YD_AT_LAST, 0x42 },    { YD_AT_LAST, 0xFF },      { YD_AT_PACE, 0 },        { YD_AT_PACE, 21 },
+        { YD_AT_COUNT, 2 },       { YD_AT_COUNT, 5 },      { YD_AT_COMPLETED, 1 },    { YD_AT_PACE, 0 },        { YD_AT_PACE, 21 },
         { YD_AT_SCANS, 0 },       { YD_AT_SCANS, 7 },      { YD_AT_SINK, 2 },         { YD_AT_DIM, 0 },         { YD_AT_BRIGHT, 1 },
         { YD_AT_BRIGHT, 32 },     { YD_AT_PLACE, 1 },      { YD_AT_LOOP_PLACE, 3 },   { YD_AT_LOOP_LEFT, 1 },   { YD_AT_ROOM, 1 },
         { YD_AT_LENGTH - 1, 1 },  { YD_AT_ID, 5 },         { YD_AT_TOTAL, 2 },        { YD_AT_LENS, 14 },       { YD_AT_LENS + 5, 1 },
@@ -763,7 +704,7 @@ static void unsound_collecting(void)
     };
     uint8_t image[YD_IMAGE_SIZE];
     just_on(image);
-    image[YD_AT_LAST] = 3;
+    completed_one(image, 3);
     image[YD_AT_ID] = 7;
     image[YD_AT_TOTAL] = 2;
     image[YD_AT_LENS + 1] = 1;
@@ -825,43 +766,6 @@ static void reset_image(void)
     check_bytes(__LINE__, "image", image, must, sizeof must);
 }
 
-/* Bytes off the line that are taken: the outcome, and of a released body its refusal, place and bytes. */
-static void takes(int line, uint8_t *image, const uint8_t *bytes, size_t length, uint32_t outcome, uint32_t number, uint32_t place, const char *body)
-{
-    uint8_t answer[YD_RECEIVE_ANSWER_SIZE + 4];
-    uint8_t must[YD_BODY_SIZE];
-    struct yd_receive_answer is;
-    memset(must, 0, sizeof must);
-    memcpy(must, body, strlen(body));
-    fill(answer, sizeof answer);
-    check(line, "yd_receive", yd_receive(image, YD_IMAGE_SIZE, sign_mid, bytes, length, answer, sizeof answer), 0);
-    yd_get_receive(answer, &is);
-    check(line, "outcome", is.outcome, outcome);
-    check(line, "no", is.no, number);
-    check(line, "place", is.place, place);
-    check(line, "length", is.length, (uint32_t)strlen(body));
-    check_bytes(line, "body", is.body, must, sizeof must);
-    check_bytes(line, "body in the answer", answer + YD_RECEIVE_BODY_OFFSET, must, sizeof must);
-    check_filled(line, "rest of the answer", answer + YD_RECEIVE_ANSWER_SIZE, 4);
-}
-
-/* Bytes off the line that are refused: image and answer stay. */
-static void refuses(int line, uint8_t *image, const uint8_t *bytes, size_t length, uint32_t number)
-{
-    uint8_t answer[YD_RECEIVE_ANSWER_SIZE];
-    uint8_t before[YD_IMAGE_SIZE];
-    memcpy(before, image, sizeof before);
-    fill(answer, sizeof answer);
-    check(line, "yd_receive", yd_receive(image, YD_IMAGE_SIZE, sign_mid, bytes, length, answer, sizeof answer), number);
-    check_bytes(line, "image", image, before, sizeof before);
-    check_filled(line, "answer", answer, sizeof answer);
-}
-
-#define TAKES(bytes, outcome) takes(__LINE__, image, bytes, sizeof bytes, outcome, 0, 0, "")
-#define RELEASES(bytes, body) takes(__LINE__, image, bytes, sizeof bytes, YD_DID_RELEASE, 0, 0, body)
-#define REFUSES(bytes, number) refuses(__LINE__, image, bytes, sizeof bytes, number)
-#define HOLDS(must) check_bytes(__LINE__, "image", image, must, YD_IMAGE_SIZE)
-
 /* What the reader refuses, Ready and Busy; and 252 before that. */
 static void receive_refuses(void)
 {
@@ -913,7 +817,7 @@ static void receive_two(void)
     REFUSES(other_total_of_7, 13);
     RELEASES(first_of_7, BODY_15);
     running(must, BODY_15);
-    must[YD_AT_LAST] = 7;
+    completed_one(must, 7);
     HOLDS(must);
     TAKES(first_of_7, YD_DID_REPEAT);
     TAKES(other_second_of_7, YD_DID_REPEAT);
@@ -954,7 +858,7 @@ static void receive_begins(void)
     CHECK(image[YD_AT_ROOM + 83], 'E');
     RELEASES(wait_of_8, "^W5");
     running(must, "^W5");
-    must[YD_AT_LAST] = 8;
+    completed_one(must, 8);
     HOLDS(must);
 }
 
@@ -981,7 +885,7 @@ static void receive_no_program(void)
     uint8_t must[YD_IMAGE_SIZE];
     size_t i;
     just_on(must);
-    must[YD_AT_LAST] = 0x3F;
+    completed_one(must, 0x3F);
     for (i = 0; i < REFUSEDS; i++) {
         size_t length = strlen(refuseds[i].body);
         if (length == 0 || length > YD_BODY_SIZE)
@@ -1034,7 +938,7 @@ static void step_kinds(void)
             CHECK(image[YD_AT_SINK], 1);
     }
     just_on(must);
-    must[YD_AT_LAST] = 9;
+    completed_one(must, 9);
     must[YD_AT_PACE] = 7;
     must[YD_AT_SCANS] = 2;
     must[YD_AT_DIM] = 20;
@@ -1086,7 +990,7 @@ static void step_loop(void)
     steps(__LINE__, image, &s);
     steps(__LINE__, image, &e);
     just_on(must);
-    must[YD_AT_LAST] = 5;
+    completed_one(must, 5);
     HOLDS(must);
 }
 
@@ -1334,13 +1238,13 @@ static void all_forbid(uint8_t mid, const uint8_t *to_it, const uint8_t *from_it
     CHECK(yd_reply(image, sizeof image, mid, YD_AUX_FLOAT, lent, sizeof lent), 19);
     CHECK(yd_reply(image, sizeof image, mid, YD_AUX_FLOAT, lent, 0), 19);
     /* An unsound record and an image of another size come before it. */
-    image[YD_AT_LAST] = 0x40;
+    image[YD_AT_COUNT] = 5;
     CHECK(yd_receive(image, sizeof image, mid, to_it, 7, lent, sizeof lent), 16);
     CHECK(yd_receive(image, sizeof image, mid, to_it, 0, lent, 0), 16);
     CHECK(yd_reply(image, sizeof image, mid, YD_AUX_FLOAT, lent, 0), 16);
-    CHECK(yd_receive(image, 101, mid, to_it, 7, lent, sizeof lent), 251);
-    CHECK(yd_reply(image, 101, mid, YD_AUX_FLOAT, lent, 0), 251);
-    image[YD_AT_LAST] = record[YD_AT_LAST];
+    CHECK(yd_receive(image, 105, mid, to_it, 7, lent, sizeof lent), 251);
+    CHECK(yd_reply(image, 105, mid, YD_AUX_FLOAT, lent, 0), 251);
+    image[YD_AT_COUNT] = record[YD_AT_COUNT];
     check_bytes(__LINE__, "image", image, record, sizeof image);
     check_filled(__LINE__, "lent bytes", lent, sizeof lent);
 }
@@ -1417,8 +1321,10 @@ static void own_mid(void)
 
 int main(void)
 {
+    tests_of("tests/c/calls.c");
     numbers_for_no();
     sizes();
+    offsets();
     results();
     read_packet();
     write_query_and_reset();
@@ -1451,6 +1357,7 @@ int main(void)
     repeat();
     forbidden_mids();
     own_mid();
-    printf("tests/c: %u checks, %u failed\n", checks, failed);
-    return failed != 0;
+    tests_of("tests/c/completed.c");
+    completed_ids();
+    return told();
 }

@@ -3,6 +3,7 @@
 
 use crate::lent::{Lent, Work};
 use crate::{archive, second};
+use reference::completed::COMPLETED_MOST;
 use reference::no::No;
 use reference::packet::{self, DATA_MOST, FRAME};
 use reference::sign::Sign;
@@ -41,10 +42,13 @@ macro_rules! function {
     };
 }
 
-/// The sign's MID, the ID of what is sent, and the one that was completed before.
+/// The sign's MID, the ID of what is sent, and those that were completed before, the oldest first.
 const MID: u8 = 0x80;
 const ID: u8 = 5;
-const BEFORE: u8 = 4;
+const BEFORE: [u8; COMPLETED_MOST] = [1, 2, 3, 4];
+
+/// The oldest of the completed IDs once that of what is sent is one of them.
+const OLDEST: u8 = BEFORE[1];
 
 /// A mixed program of each size, and where in it a text is shown and where one scrolls.
 const LONG: &[u8; 84] =
@@ -136,18 +140,22 @@ fn receiving() -> Vec<Case> {
     ]
 }
 
-/// A query and a reset that come in while a program runs.
+/// A query, a reset, and a Repeat by the newest and by the oldest of four completed IDs, that come in while a program runs.
 fn interrupting() -> Vec<Case> {
-    let interrupt = |name, told, packet: [u8; FRAME], program: Program| {
-        let lent = Lent::new([MID, 0, 0, 0], &packet, running(program.body, program.shown));
+    let interrupt = |name, told, packet: &[u8], program: Program| {
+        let lent = Lent::new([MID, 0, 0, 0], packet, running(program.body, program.shown));
         Case { name, told, size: program.body.len(), function: function!(receive, record), lent }
     };
     let query =
-        |program| interrupt("receive_query", "receiving a query, running", special(packet::write_query), program);
+        |program| interrupt("receive_query", "receiving a query, running", &special(packet::write_query), program);
     let reset =
-        |program| interrupt("receive_reset", "receiving a reset, running", special(packet::write_reset), program);
+        |program| interrupt("receive_reset", "receiving a reset, running", &special(packet::write_reset), program);
+    let repeat =
+        |name, told, id| move |program: Program| interrupt(name, told, &packets_of(id, program.body)[0], program);
     let mut cases: Vec<Case> = MIXED.map(query).into();
     cases.extend(MIXED.map(reset));
+    cases.extend(MIXED.map(repeat("receive_repeat", "receiving a Repeat by the newest completed ID, running", ID)));
+    cases.extend(MIXED.map(repeat("receive_oldest", "receiving a Repeat by the oldest of four, running", OLDEST)));
     cases
 }
 
@@ -202,11 +210,16 @@ fn small() -> Vec<Case> {
     ]
 }
 
-/// The packets of a body.
+/// The packets of a body that is sent.
 fn packets(body: &[u8]) -> Vec<Vec<u8>> {
+    packets_of(ID, body)
+}
+
+/// The packets of a body under this ID.
+fn packets_of(id: u8, body: &[u8]) -> Vec<Vec<u8>> {
     let total = body.len().div_ceil(DATA_MOST);
     let mut out = vec![0; body.len() + FRAME * total];
-    packet::write_transmission(MID, ID, body, &mut out).expect("the bodies here are short enough");
+    packet::write_transmission(MID, id, body, &mut out).expect("the bodies here are short enough");
     out.chunks(DATA_MOST + FRAME).map(<[u8]>::to_vec).collect()
 }
 
@@ -217,11 +230,11 @@ fn special(write: fn(u8, &mut [u8]) -> Result<usize, No>) -> [u8; FRAME] {
     packet
 }
 
-/// A Ready sign that took these packets.
+/// A sign that completed four messages, none of them a program, and then took these packets.
 fn after(packets: &[Vec<u8>]) -> Sign {
-    let mut sign = Sign { last: BEFORE, ..Sign::power_on() };
-    for packet in packets {
-        sign.receive(MID, packet).expect("the packets here are right");
+    let mut sign = Sign::power_on();
+    for packet in BEFORE.iter().flat_map(|&id| packets_of(id, b"A")).chain(packets.iter().cloned()) {
+        sign.receive(MID, &packet).expect("the packets here are right");
     }
     sign
 }

@@ -58,4 +58,7 @@ unsafe extern "C" {
 
     /// Ends the program if the header's own functions don't read these words from 100 bytes of an answer.
     pub fn race_assert_readers(bytes: *const u8, words: *const u32);
+
+    /// Ends the program if the header's own functions don't read from this sound image what its reply of 8 bytes tells.
+    pub fn race_assert_asked(image: *const u8, reply: *const u8);
 }

@@ -63,7 +63,8 @@ void race_assert_names(const uint32_t *used, size_t count)
     NEXT_IS(YD_NO_IMAGE_SIZE);
     NEXT_IS(YD_NO_ANSWER_SHORT);
 
-    NEXT_IS(YD_AT_LAST);
+    NEXT_IS(YD_AT_COUNT);
+    NEXT_IS(YD_AT_COMPLETED);
     NEXT_IS(YD_AT_ID);
     NEXT_IS(YD_AT_TOTAL);
     NEXT_IS(YD_AT_LENS);
@@ -121,6 +122,8 @@ void race_assert_readers(const uint8_t *bytes, const uint32_t *words)
     struct yd_receive_answer receive;
     struct yd_step_answer step;
     uint8_t image[YD_IMAGE_SIZE] = {0};
+    uint8_t count;
+    uint8_t id;
 
     assert(yd_no(words[0]) == bytes[0]);
     assert(yd_value(words[0]) == words[0] / 256);
@@ -163,6 +166,23 @@ void race_assert_readers(const uint8_t *bytes, const uint32_t *words)
     assert(step.ms == words[6]);
 
     assert(yd_is_busy(image) == 0);
-    image[93] = 84;
+    image[97] = 84;
     assert(yd_is_busy(image) == 1);
+
+    assert(yd_last_completed(image) == 0x41);
+    for (count = 1; count <= 4; count++) {
+        image[0] = count;
+        image[count] = (uint8_t)(count - 1);
+        for (id = 0; id <= 0x3f; id++) {
+            image[1] = id;
+            assert(yd_last_completed(image) == id);
+        }
+    }
+}
+
+/* The functions that the header has for an image, on one that was replied from, against that reply. */
+void race_assert_asked(const uint8_t *image, const uint8_t *reply)
+{
+    assert(yd_last_completed(image) == reply[3]);
+    assert(yd_is_busy(image) == (reply[4] == 'B'));
 }

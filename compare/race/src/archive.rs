@@ -5,6 +5,8 @@ use crate::case::{Case, Function, Lent, word};
 use crate::names::named;
 use header::*;
 use reference::calls::RECEIVE_ANSWER_SIZE;
+use reference::image::IMAGE_SIZE;
+use reference::packet::REPLY;
 
 /// Ends the race unless the header names what the race counts with, and reads the words of an answer as the race does.
 pub fn assert_header() {
@@ -16,6 +18,13 @@ pub fn assert_header() {
         race_assert_names(names.as_ptr(), names.len());
         race_assert_readers(answer.as_ptr(), words.as_ptr());
     }
+}
+
+/// Ends the race unless the header's own functions read from an image what the sign of that image replied.
+pub fn assert_asked(image: &[u8], reply: &[u8]) {
+    assert!(image.len() == IMAGE_SIZE && reply.len() >= REPLY);
+    // SAFETY: both pointers are to what is alive and as long as the header's functions and a reply need.
+    unsafe { race_assert_asked(image.as_ptr(), reply.as_ptr()) }
 }
 
 /// Has the archive answer a case on these lent bytes.

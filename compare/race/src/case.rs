@@ -3,6 +3,7 @@
 
 use crate::archive;
 use crate::packets::readdress;
+use crate::past::Past;
 use reference::calls;
 
 /// The calls of the interface.
@@ -99,13 +100,16 @@ pub struct Case {
     /// What happens to stand behind the input bytes, which no answer may depend on.
     pub behind: Vec<u8>,
     pub out: Vec<u8>,
+    /// What the sign of the image went through before, which no call is told.
+    pub past: Past,
 }
 
 impl Case {
     pub fn new(function: Function, numbers: &[usize]) -> Self {
         let mut all = [0; 4];
         all[..numbers.len()].copy_from_slice(numbers);
-        Case { function, numbers: all, image: Vec::new(), bytes: Vec::new(), behind: Vec::new(), out: Vec::new() }
+        let (image, bytes, behind, out) = Default::default();
+        Case { function, numbers: all, image, bytes, behind, out, past: Past::default() }
     }
 
     pub fn image(mut self, image: &[u8]) -> Self {

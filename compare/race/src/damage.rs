@@ -6,18 +6,31 @@ use crate::mids;
 use crate::packets;
 use crate::racer::Racer;
 use crate::records::{packet_for, record};
+use crate::remembered::known;
+use crate::sizes::SIZE_BEFORE;
+use reference::completed::COMPLETED_MOST;
 use reference::image::{AT_LENGTH, AT_LOOP_PLACE, AT_ROOM, AT_TOTAL, IMAGE_SIZE};
 
 /// The states that images are swept in.
-const STATES: [&str; 4] = ["Ready, collecting nothing", "Ready, collecting", "Busy outside loops", "Busy in a loop"];
+const STATES: [&str; 8] = [
+    "Ready, collecting nothing, under four completed IDs",
+    "Ready, collecting, under four completed IDs",
+    "Busy outside loops, under four completed IDs",
+    "Busy in a loop, under four completed IDs",
+    "Ready, collecting nothing, four completed IDs",
+    "Ready, collecting, four completed IDs",
+    "Busy outside loops, four completed IDs",
+    "Busy in a loop, four completed IDs",
+];
 
 fn state(image: &[u8]) -> usize {
-    match (image[AT_LENGTH], image[AT_TOTAL], image[AT_LOOP_PLACE]) {
+    let state = match (image[AT_LENGTH], image[AT_TOTAL], image[AT_LOOP_PLACE]) {
         (0, 0, _) => 0,
         (0, ..) => 1,
         (_, _, 0) => 2,
         _ => 3,
-    }
+    };
+    if known(image).len() == COMPLETED_MOST { state + 4 } else { state }
 }
 
 /// How far the sweep is.
@@ -128,7 +141,7 @@ pub fn made_up(racer: &mut Racer) -> Option<()> {
         }
     }
     for _ in 0..4 {
-        let size = racer.random.pick(&[IMAGE_SIZE, IMAGE_SIZE, 0, IMAGE_SIZE - 1, IMAGE_SIZE + 1]);
+        let size = racer.random.pick(&[IMAGE_SIZE, IMAGE_SIZE, 0, SIZE_BEFORE, IMAGE_SIZE - 1, IMAGE_SIZE + 1]);
         let image = racer.random.bytes(size);
         racer.call(Case::new(Function::PowerOn, &[]).image(&image))?;
     }

@@ -5,6 +5,7 @@ mod archive;
 mod bodies;
 mod by_mid;
 mod case;
+mod completed;
 mod damage;
 mod ground;
 mod measured;
@@ -12,9 +13,11 @@ mod mids;
 mod names;
 mod numbers;
 mod packets;
+mod past;
 mod racer;
 mod random;
 mod records;
+mod remembered;
 mod ride;
 mod shrink;
 mod sizes;
@@ -57,6 +60,7 @@ fn once(racer: &mut Racer) -> Option<()> {
     sizes::buffers(racer)?;
     sizes::images(racer)?;
     mids::mids(racer)?;
+    completed::completed(racer)?;
     numbers::numbers(racer)?;
     texts::texts(racer)?;
     widths::widths(racer)

@@ -7,7 +7,7 @@ use crate::racer::Racer;
 use crate::random::Random;
 use crate::records::{power_on_image, running_image, unsound};
 use reference::calls::{PACKET_ANSWER_SIZE, RECEIVE_ANSWER_SIZE, REPLY_ANSWER_SIZE};
-use reference::image::{AT_ID, AT_LAST, AT_LENS, AT_ROOM, AT_SINK, AT_TOTAL, IMAGE_SIZE};
+use reference::image::{AT_COMPLETED, AT_COUNT, AT_ID, AT_LENS, AT_ROOM, AT_SINK, AT_TOTAL, IMAGE_SIZE};
 use reference::packet::{DATA_MOST, FORBIDDEN_MIDS, FRAME, REPLY};
 
 /// The MIDs next to the forbidden ones, and the greatest.
@@ -59,7 +59,7 @@ fn images(random: &mut Random) -> [Vec<u8>; 6] {
     (collecting[AT_ID], collecting[AT_TOTAL], collecting[AT_LENS]) = (ID, 2, DATA_MOST as u8);
     collecting[AT_ROOM..AT_ROOM + DATA_MOST].copy_from_slice(FIRST);
     let mut busy = running_image(b"^L2^SHI^E").to_vec();
-    busy[AT_LAST] = COMPLETED;
+    (busy[AT_COUNT], busy[AT_COMPLETED]) = (1, COMPLETED);
     let mut third_drive = random.pick(&[&ready, &collecting, &busy]).clone();
     third_drive[AT_SINK] = 2;
     let mut other_size = ready.clone();

@@ -1,6 +1,7 @@
 //! The race itself: each case to both sides, compared, counted, and at the first difference shown small.
 //! Answers to 01's demand that a call leaves room for one outcome only.
 
+use crate::archive::assert_asked;
 use crate::case::{After, Case, Function, by_archive, by_reference};
 use crate::random::Random;
 use crate::shrink::shrink;
@@ -9,8 +10,8 @@ use reference::calls::{
     FORECAST_ANSWER_SIZE, PACKET_ANSWER_SIZE, RECEIVE_ANSWER_SIZE, REPLY_ANSWER_SIZE, STEP_ANSWER_SIZE,
 };
 use reference::image::{
-    AT_BRIGHT, AT_DIM, AT_ID, AT_LAST, AT_LENGTH, AT_LENS, AT_LOOP_LEFT, AT_LOOP_PLACE, AT_PACE, AT_PLACE, AT_ROOM,
-    AT_SCANS, AT_SINK, AT_TOTAL, IMAGE_SIZE,
+    AT_BRIGHT, AT_COMPLETED, AT_COUNT, AT_DIM, AT_ID, AT_LENGTH, AT_LENS, AT_LOOP_LEFT, AT_LOOP_PLACE, AT_PACE,
+    AT_PLACE, AT_ROOM, AT_SCANS, AT_SINK, AT_TOTAL, IMAGE_SIZE,
 };
 use std::fmt::Write;
 
@@ -47,6 +48,9 @@ impl Racer {
         let reference = by_reference(&case);
         if archive != reference || archive.strayed(&case) {
             self.stop(case);
+        }
+        if case.function == Function::Reply && reference.result & 0xFF == 0 {
+            assert_asked(&case.image, reference.out());
         }
         self.tally.count(&case, &reference);
         Some(reference)
@@ -132,8 +136,9 @@ fn fields(image: &[u8]) -> String {
     let used = room.iter().rposition(|&byte| byte != 0).map_or(0, |last| last + 1);
     let collected = format!("collected {:02X}h of {} lens {lens:?}", image[AT_ID], image[AT_TOTAL]);
     let course = NAMED.map(|(name, at)| format!("{name} {}", image[at])).join(", ");
-    let (last, room) = (image[AT_LAST], room[..used].escape_ascii());
-    format!("    last {last:02X}h, {collected}\n    room \"{room}\", zeros after\n    {course}\n")
+    let completed = format!("completed {}: {}", image[AT_COUNT], hex(&image[AT_COMPLETED..AT_ID]));
+    let room = room[..used].escape_ascii();
+    format!("    {completed}, {collected}\n    room \"{room}\", zeros after\n    {course}\n")
 }
 
 /// The numbers of an image from the running body's length on.

@@ -2,11 +2,12 @@
 //! Answers to 01, the paragraph on sound records.
 
 use crate::bodies;
+use crate::completed::{self, any_known, new_id, remember};
 use crate::packets::frame;
 use crate::random::Random;
 use reference::image::{
-    AT_BRIGHT, AT_DIM, AT_ID, AT_LAST, AT_LENGTH, AT_LENS, AT_LOOP_LEFT, AT_LOOP_PLACE, AT_PACE, AT_PLACE, AT_ROOM,
-    AT_SCANS, AT_SINK, AT_TOTAL, IMAGE_SIZE,
+    AT_BRIGHT, AT_DIM, AT_ID, AT_LENGTH, AT_LENS, AT_LOOP_LEFT, AT_LOOP_PLACE, AT_PACE, AT_PLACE, AT_ROOM, AT_SCANS,
+    AT_SINK, AT_TOTAL, IMAGE_SIZE,
 };
 use reference::packet::{BODY_MOST, DATA_MOST, TOTAL_MOST};
 use reference::sign::Sign;
@@ -51,8 +52,7 @@ fn disturbed(random: &mut Random) -> Vec<u8> {
 /// An image of a record that is sound more often than not.
 pub fn record(random: &mut Random) -> Vec<u8> {
     let mut image = vec![0; IMAGE_SIZE];
-    let id = random.below(0x40) as u8;
-    image[AT_LAST] = random.pick(&[0x41, 0, 0x3F, id, id]);
+    remember(random, &mut image);
     set_settings(random, &mut image);
     match random.below(8) {
         0 => {}
@@ -79,7 +79,7 @@ fn collect(random: &mut Random, image: &mut [u8]) {
     let total = random.within(2, 6);
     let missing = random.below(total);
     let held = (missing + random.within(1, total - 1)) % total;
-    image[AT_ID] = random.below(0x40) as u8;
+    image[AT_ID] = new_id(random, image);
     image[AT_TOTAL] = total as u8;
     for position in 0..total {
         if position == held || (position != missing && random.chance(50)) {
@@ -134,7 +134,7 @@ fn loop_around(body: &[u8], carets: &[usize], place: usize) -> (u8, u8) {
 
 /// Changes the record in a way that likely makes it unsound, often where one changed byte would not do.
 fn disturb(random: &mut Random, image: &mut [u8]) {
-    match random.below(11) {
+    match random.below(12) {
         0 => collect(random, image),
         1 => image[AT_LENS..AT_ROOM].fill(DATA_MOST as u8),
         2 => {
@@ -142,11 +142,11 @@ fn disturb(random: &mut Random, image: &mut [u8]) {
             image[AT_PLACE] = random.below(length + 2) as u8;
             image[AT_LOOP_PLACE] = random.below(length + 2) as u8;
         }
-        3 => image[AT_LAST] = image[AT_ID],
-        4 => disturb_collected(random, image),
-        5 | 6 => stray_collection(random, image),
-        7 | 8 => stray_room(random, image),
-        9 => image[AT_SINK] = random.pick(&[2, 3, 0x80, 0xFE, 0xFF]),
+        3 => disturb_collected(random, image),
+        4 | 5 => stray_collection(random, image),
+        6 | 7 => stray_room(random, image),
+        8 | 9 => completed::disturb(random, image),
+        10 => image[AT_SINK] = random.pick(&[2, 3, 0x80, 0xFE, 0xFF]),
         _ => {
             for _ in 0..2 {
                 let at = random.below(IMAGE_SIZE);
@@ -164,7 +164,7 @@ fn stray_collection(random: &mut Random, image: &mut [u8]) {
         return;
     }
     let full = usize::from(image[AT_LENGTH]).min(BODY_MOST) / DATA_MOST;
-    image[AT_ID] = random.below(0x40) as u8;
+    image[AT_ID] = new_id(random, image);
     image[AT_TOTAL] = (full + 1).clamp(2, TOTAL_MOST) as u8;
     image[AT_LENS..AT_LENS + full].fill(DATA_MOST as u8);
 }
@@ -199,7 +199,8 @@ fn disturb_collected(random: &mut Random, image: &mut [u8]) {
 pub fn packet_for(random: &mut Random, image: &[u8], mid: u8) -> Vec<u8> {
     let byte = |at: usize| image.get(at).copied().unwrap_or(0);
     let other = random.below(0x42) as u8;
-    let id = random.pick(&[byte(AT_ID), byte(AT_ID), byte(AT_LAST), other]);
+    let known = any_known(random, image);
+    let id = random.pick(&[byte(AT_ID), byte(AT_ID), known, known, other]);
     let any = random.within(1, 6);
     let total = random.pick(&[byte(AT_TOTAL).into(), byte(AT_TOTAL).into(), byte(AT_TOTAL).into(), any]).clamp(1, 6);
     let last = total - 1;

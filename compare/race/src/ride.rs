@@ -3,19 +3,26 @@
 
 use crate::bodies;
 use crate::case::{After, Case, Function};
+use crate::completed::{any_known, few_ids};
 use crate::mids;
 use crate::packets;
+use crate::past::Followed;
 use crate::racer::Racer;
+use crate::random::Random;
 use crate::records::packet_for;
-use crate::sizes::WITH_IMAGE;
+use crate::sizes::{SIZE_BEFORE, WITH_IMAGE, laid_out_before};
 use reference::image::{AT_LENGTH, IMAGE_SIZE};
 use reference::packet::FORBIDDEN_MIDS;
 
 /// A sign under way, and the packets around it.
 struct Ride {
-    image: Vec<u8>,
+    sign: Followed,
     mid: u8,
+    /// The IDs that most of its messages bear, so few that they come again soon, and that of the message that is being sent.
+    ids: Vec<u8>,
     id: u8,
+    /// Whether its messages are brief and resets rare, so that many messages are completed between two resets.
+    brief: bool,
     /// The packets still to come of the message that is being sent.
     coming: Vec<Vec<u8>>,
     /// Packets that were sent before, or belong to a message that competes.
@@ -24,14 +31,14 @@ struct Ride {
 
 /// Lets a sign ride from power-on, and keeps some of the images that it comes through.
 pub fn ride(racer: &mut Racer, reached: &mut Vec<Vec<u8>>) -> Option<()> {
-    let image = racer.random.bytes(IMAGE_SIZE);
-    let mid = mids::allowed(&mut racer.random);
-    let image = racer.call(Case::new(Function::PowerOn, &[]).image(&image))?.image().to_vec();
-    let mut ride = Ride { image, mid, id: racer.random.byte() & 0x3F, coming: Vec::new(), around: Vec::new() };
+    let sign = Followed::power_on(racer)?;
+    let random = &mut racer.random;
+    let (mid, ids, id, brief) = (mids::allowed(random), few_ids(random), random.byte() & 0x3F, random.chance(50));
+    let mut ride = Ride { sign, mid, ids, id, brief, coming: Vec::new(), around: Vec::new() };
     for _ in 0..racer.random.within(50, 400) {
         ride.go(racer)?;
         if racer.random.chance(4) {
-            reached.push(ride.image.clone());
+            reached.push(ride.sign.image.clone());
         }
     }
     Some(())
@@ -40,16 +47,19 @@ pub fn ride(racer: &mut Racer, reached: &mut Vec<Vec<u8>>) -> Option<()> {
 impl Ride {
     /// One thing that happens to the sign.
     fn go(&mut self, racer: &mut Racer) -> Option<()> {
-        let busy = self.image[AT_LENGTH] != 0;
+        let busy = self.sign.image[AT_LENGTH] != 0;
         match racer.random.below(100) {
             0..45 if busy => self.steps(racer),
             0..45 => self.next_packet(racer),
-            45..55 => self.packet_again(racer),
-            55..67 => self.odd_packet(racer),
-            67..77 => self.steps(racer),
+            45..53 => self.packet_again(racer),
+            53..64 => self.odd_packet(racer),
+            64..70 => self.old_packet(racer),
+            70..77 => self.steps(racer),
             77..82 => self.copy_and_repeat(racer),
             82..88 => self.reply(racer),
-            88..92 => self.special(racer),
+            88..91 => self.special(racer, 0x40),
+            91..98 if self.brief && racer.random.chance(90) => self.next_packet(racer),
+            91 => self.special(racer, 0x41),
             92..94 => self.on_image(racer, Case::new(Function::Reset, &[])),
             94..97 => self.refused(racer),
             97 => self.on_image(racer, Case::new(Function::PowerOn, &[])),
@@ -62,14 +72,11 @@ impl Ride {
 
     /// Has the sign answer, and goes on with the image that it left. A few calls come with a forbidden MID first, which leaves it.
     fn call(&mut self, racer: &mut Racer, case: Case) -> Option<After> {
-        let case = case.image(&self.image);
         if case.mid().is_some() && racer.random.chance(3) {
             let mid = racer.random.pick(&FORBIDDEN_MIDS);
-            racer.call(case.readdressed(mid))?;
+            self.sign.ask(racer, case.readdressed(mid))?;
         }
-        let after = racer.call(case)?;
-        self.image = after.image().to_vec();
-        Some(after)
+        self.sign.call(racer, case)
     }
 
     fn on_image(&mut self, racer: &mut Racer, case: Case) -> Option<()> {
@@ -84,9 +91,12 @@ impl Ride {
     /// Begins to send a new message, in order or not, perhaps with another one around it.
     fn send(&mut self, racer: &mut Racer) {
         let random = &mut racer.random;
-        self.id = if random.chance(80) { (self.id + 1) & 0x3F } else { random.byte() & 0x3F };
-        let mut body = if random.chance(80) { bodies::program(random) } else { bodies::body(random) };
-        body.truncate(84);
+        self.id = match random.below(10) {
+            0..5 => random.pick(&self.ids),
+            5..9 => (self.id + 1) & 0x3F,
+            _ => random.byte() & 0x3F,
+        };
+        let mut body = self.body(random);
         self.coming = packets::transmission(self.mid, self.id, &body);
         if random.chance(40) {
             for from in (1..self.coming.len()).rev() {
@@ -102,6 +112,17 @@ impl Ride {
         }
         let excess = self.around.len().saturating_sub(24);
         self.around.drain(..excess);
+    }
+
+    /// A body to send, in a brief ride most often of one packet or two and soon over.
+    fn body(&self, random: &mut Random) -> Vec<u8> {
+        const BRIEF: [&[u8]; 6] = [b"^S", b"^P9^XS", b"^L2^SHI^E", b"^IIHI^W5^XD99^XB9", b"no", b"no body for a sign"];
+        if self.brief && random.chance(80) {
+            return random.pick(&BRIEF).to_vec();
+        }
+        let mut body = if random.chance(80) { bodies::program(random) } else { bodies::body(random) };
+        body.truncate(84);
+        body
     }
 
     fn next_packet(&mut self, racer: &mut Racer) -> Option<()> {
@@ -134,13 +155,25 @@ impl Ride {
         let bytes = match random.below(4) {
             0 => packets::packet(random, self.mid),
             1 => packets::whole(random, other),
-            _ => packet_for(random, &self.image, self.mid),
+            _ => packet_for(random, &self.sign.image, self.mid),
         };
         self.receive(racer, bytes)
     }
 
-    fn special(&mut self, racer: &mut Racer) -> Option<()> {
-        let id = racer.random.pick(&[0x40, 0x40, 0x41]);
+    /// A packet of an ID that is completed, or that was completed once and is new again.
+    fn old_packet(&mut self, racer: &mut Racer) -> Option<()> {
+        let random = &mut racer.random;
+        let forgotten = self.sign.past.forgotten();
+        let known = any_known(random, &self.sign.image);
+        let id = if forgotten.is_empty() || random.chance(60) { known } else { random.pick(&forgotten) };
+        let body = self.body(random);
+        let packets = packets::transmission(self.mid, id, if body.is_empty() { b"^S" } else { &body });
+        let bytes = packets[random.below(packets.len())].clone();
+        self.receive(racer, bytes)
+    }
+
+    /// A query or a reset.
+    fn special(&mut self, racer: &mut Racer, id: u8) -> Option<()> {
         self.receive(racer, packets::frame(self.mid, id, 0x10, &[]))
     }
 
@@ -155,7 +188,7 @@ impl Ride {
 
     /// What a driver does: copy the body, step, and show the step's text.
     fn copy_and_repeat(&mut self, racer: &mut Racer) -> Option<()> {
-        let out = racer.buffer(self.image[AT_LENGTH].into());
+        let out = racer.buffer(self.sign.image[AT_LENGTH].into());
         let copy = self.call(racer, Case::new(Function::CopyBody, &[]).out(out))?;
         let step = self.call(racer, Case::new(Function::Step, &[]).out(vec![0; 28]))?;
         if copy.result & 0xFF != 0 {
@@ -176,8 +209,11 @@ impl Ride {
     fn refused(&mut self, racer: &mut Racer) -> Option<()> {
         let size = racer.random.pick(&[0, 1, IMAGE_SIZE - 1, IMAGE_SIZE + 1, IMAGE_SIZE + 14]);
         let any = racer.random.below(IMAGE_SIZE + 20);
-        let mut image = self.image.clone();
-        image.resize(racer.random.pick(&[size, any]), 0);
+        let mut image = self.sign.image.clone();
+        match racer.random.below(3) {
+            0 => image = laid_out_before(&image),
+            _ => image.resize(racer.random.pick(&[size, any, SIZE_BEFORE]), 0),
+        }
         for function in WITH_IMAGE {
             let mid = mids::any(&mut racer.random);
             let bytes = packets::whole(&mut racer.random, mid);

@@ -4,7 +4,10 @@
 use crate::case::{Case, Function, differ};
 use crate::packets::mend;
 use crate::records::power_on_image;
-use reference::image::{AT_ID, AT_LENGTH, AT_LOOP_LEFT, AT_LOOP_PLACE, AT_PLACE, AT_ROOM, IMAGE_SIZE};
+use crate::remembered::known;
+use reference::image::{
+    AT_COMPLETED, AT_COUNT, AT_ID, AT_LENGTH, AT_LOOP_LEFT, AT_LOOP_PLACE, AT_PLACE, AT_ROOM, IMAGE_SIZE,
+};
 
 /// The smallest case that single simplifications lead to.
 pub fn shrink(mut case: Case) -> Case {
@@ -111,12 +114,19 @@ fn simpler_image(case: &Case, candidates: &mut Vec<Case>) {
         return;
     }
     let plain = power_on_image();
-    let parts = [(AT_ID, AT_LENGTH), (AT_ID, AT_ROOM), (AT_ROOM, AT_LOOP_LEFT + 1), (AT_PLACE, AT_LOOP_LEFT + 1)];
+    let parts = [
+        (AT_COUNT, AT_ID),
+        (AT_ID, AT_LENGTH),
+        (AT_ID, AT_ROOM),
+        (AT_ROOM, AT_LOOP_LEFT + 1),
+        (AT_PLACE, AT_LOOP_LEFT + 1),
+    ];
     for (start, end) in parts {
         let mut candidate = case.clone();
         candidate.image[start..end].fill(0);
         candidates.push(candidate);
     }
+    fewer_completed(case, candidates);
     shorter_running_body(case, candidates);
     for (index, &plain) in plain.iter().enumerate() {
         for simple in [plain, b' ', b'1', b'A', b'S'] {
@@ -124,6 +134,18 @@ fn simpler_image(case: &Case, candidates: &mut Vec<Case>) {
             candidate.image[index] = simple;
             candidates.push(candidate);
         }
+    }
+}
+
+/// Drops one of the completed IDs, with the older ones moved along.
+fn fewer_completed(case: &Case, candidates: &mut Vec<Case>) {
+    for place in 0..known(&case.image).len() {
+        let mut candidate = case.clone();
+        let image = &mut candidate.image;
+        image.copy_within(AT_COMPLETED + place + 1..AT_ID, AT_COMPLETED + place);
+        image[AT_ID - 1] = 0;
+        image[AT_COUNT] -= 1;
+        candidates.push(candidate);
     }
 }
 

@@ -6,10 +6,21 @@ use crate::case::{Case, Function};
 use crate::packets;
 use crate::racer::Racer;
 use crate::records::{packet_for, record, sound, unsound};
-use reference::image::IMAGE_SIZE;
+use crate::remembered::known;
+use reference::image::{AT_ID, IMAGE_SIZE};
+use reference::packet::ID_RESET;
 
 /// How far the sizes go beyond what any call needs.
 const MORE: usize = 24;
+
+/// The size of an image before C-23.
+pub const SIZE_BEFORE: usize = 102;
+
+/// A record as it was laid out before: its last completed ID alone, then all but the completed IDs.
+pub fn laid_out_before(image: &[u8]) -> Vec<u8> {
+    let last = known(image).first().copied().unwrap_or(ID_RESET);
+    [&[last], &image[AT_ID..]].concat()
+}
 
 /// Each call that is lent a buffer, with every size up to more than it needs; those with an image on a sound and an unsound one.
 pub fn buffers(racer: &mut Racer) -> Option<()> {
@@ -49,10 +60,16 @@ pub fn buffers(racer: &mut Racer) -> Option<()> {
 }
 
 /// Each call that is lent an image, with every size up to more than it needs, and an answer that is enough or is not.
+/// The last of the images are laid out as before.
 pub fn images(racer: &mut Racer) -> Option<()> {
+    let mut images = Vec::new();
     for size in 0..=IMAGE_SIZE + MORE {
         let mut image = record(&mut racer.random);
         image.resize(size, 0);
+        images.push(image);
+    }
+    images.extend((0..MORE).map(|_| laid_out_before(&sound(&mut racer.random))));
+    for image in images {
         let packet = packets::whole(&mut racer.random, 0x80);
         for answer in [0, 100] {
             for function in WITH_IMAGE {

@@ -5,6 +5,7 @@ use crate::by_mid::{ByMid, in_place_of};
 use crate::case::{After, Case, Function, SHAPES};
 use crate::ground::Grounds;
 use crate::measured::{Measured, texts_of};
+use crate::remembered as ids;
 use reference::machine::COLUMNS;
 
 /// A count over the values that one word of an answer, a result, one byte of what was asked, or the blank edge of a text can take.
@@ -72,8 +73,19 @@ const BYTES: [u32; VALUES] = {
     bytes
 };
 
+/// Each number of a message, and that of a reset.
+const LAST: [u32; 65] = {
+    let mut ids = [0x41; 65];
+    let mut id = 0;
+    while id < 64 {
+        ids[id] = id as u32;
+        id += 1;
+    }
+    ids
+};
+
 #[rustfmt::skip]
-const GROUPS: [Group; 23] = [
+const GROUPS: [Group; 35] = [
     Group { name: "yd_read_packet, what", function: Function::ReadPacket, read: first_word, expected: &[1, 2, 3] },
     Group { name: "yd_read_packet, what 19 came before, 0 is yes", function: Function::ReadPacket, read: in_place_of,
         expected: &[0, 1, 2, 3, 4, 5, 6, 7, 8, 9, 10, 11, 252] },
@@ -101,6 +113,29 @@ const GROUPS: [Group; 23] = [
     Group { name: "yd_receive, outcome", function: Function::Receive, read: first_word, expected: &[1, 2, 3, 4, 5] },
     Group { name: "yd_receive, number of a released body", function: Function::Receive, read: released,
         expected: &[0, 21, 22, 23, 24, 25, 26, 27] },
+    Group { name: "yd_receive, place of a Repeat among four completed IDs, Ready", function: Function::Receive,
+        read: ids::repeat_place_ready, expected: &[1, 2, 3, 4] },
+    Group { name: "yd_receive, place of a Repeat among four completed IDs, Busy", function: Function::Receive,
+        read: ids::repeat_place_busy, expected: &[1, 2, 3, 4] },
+    Group { name: "yd_receive, place of a Repeat among four completed IDs, another collected",
+        function: Function::Receive, read: ids::repeat_place_collecting, expected: &[1, 2, 3, 4] },
+    Group { name: "yd_receive, completed IDs before a program was released", function: Function::Receive,
+        read: ids::before_program, expected: &[0, 1, 2, 3, 4] },
+    Group { name: "yd_receive, completed IDs before a body that is no program was released",
+        function: Function::Receive, read: ids::before_no_program, expected: &[0, 1, 2, 3, 4] },
+    Group { name: "yd_receive, count of completed IDs over 4, all else sound", function: Function::Receive,
+        read: ids::count_over, expected: BYTES.split_at(5).1 },
+    Group { name: "yd_receive, place of a completed ID over 3Fh, all else sound", function: Function::Receive,
+        read: ids::over_place, expected: &[1, 2, 3, 4] },
+    Group { name: "yd_receive, two places of a completed ID, all else sound", function: Function::Receive,
+        read: ids::twice_places, expected: &[12, 13, 14, 23, 24, 34] },
+    Group { name: "yd_receive, number of completed IDs and place of a stray byte after them, all else sound",
+        function: Function::Receive, read: ids::stray_place, expected: &[1, 2, 3, 4, 12, 13, 14, 23, 24, 34] },
+    Group { name: "yd_receive, place of the collected ID among the completed ones, all else sound",
+        function: Function::Receive, read: ids::collected_place, expected: &[1, 2, 3, 4] },
+    Group { name: "yd_reply, number of completed IDs", function: Function::Reply, read: ids::replied_with,
+        expected: &[0, 1, 2, 3, 4] },
+    Group { name: "yd_reply, last completed ID", function: Function::Reply, read: ids::replied, expected: &LAST },
     Group { name: "yd_step, kind", function: Function::Step, read: first_word,
         expected: &[0, 1, 2, 3, 4, 5, 6, 7, 8, 9, 10, 11, 12, 13, 14, 15, 16] },
     Group { name: "yd_step, number of an XB", function: Function::Step, read: brightness, expected: &BYTES },

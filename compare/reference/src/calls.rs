@@ -20,7 +20,7 @@ pub const STEP_ANSWER_SIZE: usize = 28;
 pub const RECEIVE_BODY_OFFSET: usize = 16;
 
 /// The version of the interface: major, minor, patch.
-const VERSION: [usize; 3] = [1, 2, 0];
+const VERSION: [usize; 3] = [1, 3, 0];
 
 /// The numbers that only this interface has.
 pub const NO_IMAGE_SIZE: u32 = 251;

@@ -6,6 +6,7 @@
 #![forbid(unsafe_code)]
 
 pub mod calls;
+pub mod completed;
 pub mod image;
 pub mod machine;
 pub mod no;

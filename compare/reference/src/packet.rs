@@ -63,7 +63,7 @@ pub fn checksum(bytes: &[u8]) -> u8 {
 }
 
 /// Whether this ID can be the last completed one: a message number or the reset.
-pub fn can_be_last(id: u8) -> bool {
+fn can_be_last(id: u8) -> bool {
     id <= ID_MOST || id == ID_RESET
 }
 

@@ -1,18 +1,17 @@
 //! The sign: its record, when that is sound, and what each call does to it; and the driver's repeater.
-//! Answers to 01, "Joining", the rules of a step and of soundness, and the numbers 12, 13 and 16.
+//! Answers to 01, "Joining", the rules of a step and of soundness, the numbers 12, 13 and 16, and to C-23.
 
+use crate::completed::Completed;
 use crate::machine::{Course, Settings, Step, perform};
 use crate::no::{No, Refusal};
-use crate::packet::{
-    BODY_MOST, DATA_MOST, ID_MOST, ID_RESET, Normal, Packet, Reply, TOTAL_MOST, can_be_last, read_packet, write_reply,
-};
+use crate::packet::{BODY_MOST, DATA_MOST, ID_MOST, Normal, Packet, Reply, TOTAL_MOST, read_packet, write_reply};
 use crate::program::{Command, Reader, judge};
 
 /// All that a sign remembers.
 #[derive(Clone, Debug, PartialEq, Eq)]
 pub struct Sign {
-    /// The last completed ID.
-    pub last: u8,
+    /// The IDs that it completed since its reset, four at most.
+    pub completed: Completed,
     /// What is being collected, all zeros if nothing is.
     pub id: u8,
     pub total: u8,
@@ -47,7 +46,7 @@ impl Sign {
     /// A sign just switched on.
     pub fn power_on() -> Sign {
         Sign {
-            last: ID_RESET,
+            completed: Completed::default(),
             id: 0,
             total: 0,
             lens: [0; TOTAL_MOST],
@@ -105,7 +104,7 @@ impl Sign {
     /// Lays the reply to a query at the front of `out` and tells its length; the record is judged before the MID.
     pub fn reply(&self, mid: u8, aux_sinks: bool, out: &mut [u8]) -> Result<usize, No> {
         self.standing()?;
-        write_reply(mid, Reply { last: self.last, busy: self.is_busy(), sink: aux_sinks }, out)
+        write_reply(mid, Reply { last: self.completed.last(), busy: self.is_busy(), sink: aux_sinks }, out)
     }
 
     /// Copies the running body to the front of `out` and tells its length.
@@ -131,7 +130,7 @@ impl Sign {
 /// The joining of packets.
 impl Sign {
     fn join(&mut self, packet: Normal) -> Result<Received, No> {
-        if packet.id == self.last {
+        if self.completed.contains(packet.id) {
             return Ok(Received::Repeat);
         }
         if self.is_busy() {
@@ -163,7 +162,7 @@ impl Sign {
         }
         let body = self.room;
         let length: u8 = self.lens.iter().sum();
-        self.last = self.id;
+        self.completed.add(self.id);
         self.drop_collected();
         let refusal = judge(&body[..usize::from(length)]).err();
         if refusal.is_none() {
@@ -185,7 +184,7 @@ impl Sign {
 impl Sign {
     /// The command that a sound sign performs next, none if it is Ready.
     pub(crate) fn standing(&self) -> Result<Option<Command>, No> {
-        if !can_be_last(self.last) || !self.settings.are_sound() {
+        if !self.completed.is_sound() || !self.settings.are_sound() {
             return Err(No::Unsound);
         }
         if !self.is_busy() {
@@ -205,7 +204,7 @@ impl Sign {
     /// Whether what is collected could have come in as packets and still lacks some.
     fn collects_soundly(&self) -> bool {
         let total = usize::from(self.total);
-        if !(2..=TOTAL_MOST).contains(&total) || self.id > ID_MOST || self.id == self.last {
+        if !(2..=TOTAL_MOST).contains(&total) || self.id > ID_MOST || self.completed.contains(self.id) {
             return false;
         }
         let held = self.lens.iter().filter(|&&length| length != 0).count();

@@ -94,8 +94,8 @@ fn the_repeater_tells_which_in_its_value() {
 }
 
 #[test]
-fn the_version_is_1_2_0() {
-    assert_eq!(calls::version(), 16_908_288);
+fn the_version_is_1_3_0() {
+    assert_eq!(calls::version(), 16_973_824);
 }
 
 #[test]
@@ -115,7 +115,7 @@ fn a_message_from_line_to_end() {
     assert_eq!(calls::step(&mut image, &mut answer), 0);
     assert_eq!(words(&answer), [0; 7]);
     let mut expected = power_on();
-    expected[0] = 5;
+    expected[..2].copy_from_slice(&[1, 5]);
     assert_eq!(image, expected);
 }
 

@@ -1,6 +1,7 @@
 //! The examples on the bench, each as 01 gives it, and those that change requests added to the rules.
 //! Answers to 01, "Examples on the bench", and to the tables of examples in docs/RULES.md.
 
+use reference::completed::Completed;
 use reference::machine::{Forecast, Totals, forecast};
 use reference::no::{No, Refusal};
 use reference::packet::{
@@ -151,4 +152,72 @@ fn a_late_copy_of_the_running_message_is_a_repeat() {
     assert!(matches!(sign.receive(0x80, &HI), Ok(Received::Released(_))));
     assert!(sign.is_busy());
     assert_eq!(sign.receive(0x80, &HI), Ok(Received::Repeat));
+}
+
+/// A sign just switched on that completed these messages in this order, each a body that is no program.
+fn completed(ids: &[u8]) -> Sign {
+    let mut sign = Sign::power_on();
+    for &id in ids {
+        assert!(matches!(hear(&mut sign, id, b"A"), Ok(Received::Released(_))));
+    }
+    sign
+}
+
+/// What the sign answers to a message of one packet.
+fn hear(sign: &mut Sign, id: u8, body: &[u8]) -> Result<Received, No> {
+    let mut out = [0; 21];
+    let length = write_packet(0x80, id, body, 0, &mut out).unwrap();
+    sign.receive(0x80, &out[..length])
+}
+
+/// Whether each of these IDs is a Repeat, or each is new.
+#[track_caller]
+fn check_ids(sign: &Sign, ids: &[u8], repeat: bool) {
+    for &id in ids {
+        let told = hear(&mut sign.clone(), id, b"^S");
+        assert_eq!(told == Ok(Received::Repeat), repeat, "{id}");
+        assert_eq!(matches!(told, Ok(Received::Released(_))), !repeat, "{id}");
+    }
+}
+
+#[track_caller]
+fn check_last(sign: &Sign, last: u8) {
+    let mut out = [0; 8];
+    assert_eq!(sign.reply(0x80, false, &mut out), Ok(8));
+    assert_eq!(out[3], last);
+}
+
+#[test]
+fn completed_ids() {
+    check_ids(&completed(&[]), &[0], false);
+    let six = completed(&[0, 5, 63, 7, 9, 11]);
+    check_ids(&six, &[63, 7, 9, 11], true);
+    check_ids(&six, &[0, 5], false);
+    check_last(&six, 11);
+    let mut nine = completed(&[9]);
+    assert_eq!(nine.reset(), Ok(()));
+    check_ids(&nine, &[9], false);
+    check_last(&nine, 0x41);
+    let mut busy = completed(&[1, 2, 3]);
+    assert!(matches!(hear(&mut busy, 4, b"^S"), Ok(Received::Released(_))));
+    assert!(busy.is_busy());
+    check_ids(&busy, &[1, 2, 3, 4], true);
+    assert_eq!(hear(&mut busy, 5, b"^S"), Err(No::Busy));
+}
+
+#[test]
+fn sound_completed_ids() {
+    let ready = |count, ids| Sign { completed: Completed { count, ids }, ..Sign::power_on() };
+    assert!(ready(4, [4, 3, 2, 0]).is_sound());
+    assert!(!ready(4, [4, 3, 2, 4]).is_sound());
+    for third in 1..=255 {
+        assert!(!ready(2, [4, 3, third, 0]).is_sound());
+    }
+    assert!(ready(2, [2, 1, 0, 0]).is_sound());
+    let mut collecting = ready(2, [2, 1, 0, 0]);
+    (collecting.id, collecting.total, collecting.lens[0]) = (1, 2, 14);
+    assert!(!collecting.is_sound());
+    collecting.id = 3;
+    assert!(collecting.is_sound());
+    assert!(!ready(1, [0x40, 0, 0, 0]).is_sound());
 }

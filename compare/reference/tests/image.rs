@@ -5,7 +5,7 @@ use reference::calls;
 use reference::packet::{write_packet, write_query, write_reset};
 use reference::sign::Sign;
 
-type Image = [u8; 102];
+type Image = [u8; 106];
 
 const MID: u8 = 0x80;
 
@@ -20,19 +20,19 @@ fn with(mut image: Image, parts: &[(usize, &[u8])]) -> Image {
     image
 }
 
-/// A sign just switched on: last ID 41h, pace 4, one scan, AUX floating, threshold 16, no forced brightness.
+/// A sign just switched on: no completed ID, pace 4, one scan, AUX floating, threshold 16, no forced brightness.
 fn switched_on() -> Image {
-    with([0; 102], &[(0, &[0x41]), (97, &[4, 1, 0, 16, 0])])
+    with([0; 106], &[(101, &[4, 1, 0, 16, 0])])
 }
 
 /// A sign that collects ID 9 of three packets and lacks the middle one.
 fn collecting() -> Image {
-    with(switched_on(), &[(1, &[9, 3, 14, 0, 4]), (9, &LONG[..14]), (37, &LONG[28..])])
+    with(switched_on(), &[(5, &[9, 3, 14, 0, 4]), (13, &LONG[..14]), (41, &LONG[28..])])
 }
 
 /// A sign that runs the three packets' body from its first command.
 fn running() -> Image {
-    with(switched_on(), &[(0, &[9]), (9, LONG), (93, &[32])])
+    with(switched_on(), &[(0, &[1, 9]), (13, LONG), (97, &[32])])
 }
 
 fn packet(id: u8, body: &[u8], position: u8) -> Vec<u8> {
@@ -73,21 +73,21 @@ fn sound(image: Image) -> bool {
 
 #[test]
 fn a_sign_just_switched_on() {
-    let mut image = [0xEE; 102];
+    let mut image = [0xEE; 106];
     assert_eq!(calls::power_on(&mut image), 0);
     assert_eq!(image, switched_on());
-    assert_eq!(image[..9], [0x41, 0, 0, 0, 0, 0, 0, 0, 0]);
-    assert_eq!(image[9..93], [0; 84]);
-    assert_eq!(image[93..], [0, 0, 0, 0, 4, 1, 0, 16, 0]);
+    assert_eq!(image[..13], [0; 13]);
+    assert_eq!(image[13..97], [0; 84]);
+    assert_eq!(image[97..], [0, 0, 0, 0, 4, 1, 0, 16, 0]);
 }
 
 #[test]
 fn packets_stand_by_position_while_ready() {
     let mut image = switched_on();
     assert_eq!(receive(&mut image, &packet(9, LONG, 2)), 4);
-    assert_eq!(image, with(switched_on(), &[(1, &[9, 3, 0, 0, 4]), (37, b"9^XS")]));
+    assert_eq!(image, with(switched_on(), &[(5, &[9, 3, 0, 0, 4]), (41, b"9^XS")]));
     assert_eq!(receive(&mut image, &packet(9, LONG, 0)), 4);
-    assert_eq!(image, with(switched_on(), &[(1, &[9, 3, 14, 0, 4]), (9, b"^II0123456789 "), (37, b"9^XS")]));
+    assert_eq!(image, with(switched_on(), &[(5, &[9, 3, 14, 0, 4]), (13, b"^II0123456789 "), (41, b"9^XS")]));
     assert_eq!(image, collecting());
 }
 
@@ -96,8 +96,8 @@ fn another_message_has_the_room_for_itself() {
     let full: [u8; 84] = std::array::from_fn(|index| index as u8 + 1);
     let mut image = collecting();
     assert_eq!(receive(&mut image, &packet(8, &full, 5)), 4);
-    assert_eq!(image, with(switched_on(), &[(1, &[8, 6, 0, 0, 0, 0, 0, 14]), (79, &full[70..])]));
-    assert_eq!((image[8], image[92], image[93]), (14, 84, 0));
+    assert_eq!(image, with(switched_on(), &[(5, &[8, 6, 0, 0, 0, 0, 0, 14]), (83, &full[70..])]));
+    assert_eq!((image[12], image[96], image[97]), (14, 84, 0));
 }
 
 #[test]
@@ -106,8 +106,8 @@ fn a_released_program_stands_at_the_front_of_the_room() {
     let mut answer = [0xEE; 100];
     assert_eq!(calls::receive(&mut image, MID, &packet(9, LONG, 1), &mut answer), 0);
     assert_eq!(image, running());
-    assert_eq!(image[1..9], [0; 8]);
-    assert_eq!((&image[9..41], &image[41..93], image[93]), (LONG.as_slice(), [0; 52].as_slice(), 32));
+    assert_eq!(image[5..13], [0; 8]);
+    assert_eq!((&image[13..45], &image[45..97], image[97]), (LONG.as_slice(), [0; 52].as_slice(), 32));
     assert_eq!((&answer[16..48], &answer[48..]), (LONG.as_slice(), [0; 52].as_slice()));
     let mut copy = [0xEE; 40];
     assert_eq!(calls::copy_body(&image, &mut copy), 32 << 8);
@@ -122,22 +122,22 @@ fn the_longest_program_fills_the_room() {
         assert_eq!(receive(&mut image, &packet(0x3F, &body, position)), 4);
     }
     assert_eq!(receive(&mut image, &packet(0x3F, &body, 2)), 5);
-    assert_eq!(image, with(switched_on(), &[(0, &[0x3F]), (9, &body), (93, &[84])]));
-    assert_eq!(image[92], b'}');
+    assert_eq!(image, with(switched_on(), &[(0, &[1, 0x3F]), (13, &body), (97, &[84])]));
+    assert_eq!(image[96], b'}');
 }
 
 #[test]
 fn a_released_body_that_is_no_program_leaves_zeros() {
     let refused = b"^II0123456789 twenty-nine^W99^XZ";
-    let mut image = with(collecting(), &[(37, &refused[28..])]);
+    let mut image = with(collecting(), &[(41, &refused[28..])]);
     let mut answer = [0xEE; 100];
     assert_eq!(calls::receive(&mut image, MID, &packet(9, refused, 1), &mut answer), 0);
     assert_eq!(answer[..16], [5, 0, 0, 0, 22, 0, 0, 0, 29, 0, 0, 0, 32, 0, 0, 0]);
     assert_eq!((&answer[16..48], &answer[48..]), (refused.as_slice(), [0; 52].as_slice()));
-    assert_eq!(image, with(switched_on(), &[(0, &[9])]));
+    assert_eq!(image, with(switched_on(), &[(0, &[1, 9])]));
     let mut image = switched_on();
     assert_eq!(receive(&mut image, &packet(0, b"no caret", 0)), 5);
-    assert_eq!(image, with(switched_on(), &[(0, &[0])]));
+    assert_eq!(image, with(switched_on(), &[(0, &[1, 0])]));
 }
 
 #[test]
@@ -145,20 +145,20 @@ fn the_end_of_a_program_leaves_zeros() {
     let mut image = running();
     for (place, sinks) in [(25, 0), (29, 0), (0, 1)] {
         assert_eq!(calls::step(&mut image, &mut [0; 28]), 0);
-        assert_eq!((image[94], image[99]), (place, sinks));
+        assert_eq!((image[98], image[103]), (place, sinks));
     }
-    assert_eq!(image, with(switched_on(), &[(0, &[9]), (99, &[1])]));
+    assert_eq!(image, with(switched_on(), &[(0, &[1, 9]), (103, &[1])]));
 }
 
 #[test]
 fn a_loop_stands_at_its_places() {
     let mut image = switched_on();
     assert_eq!(receive(&mut image, &packet(7, b"^L3^P20^E", 0)), 5);
-    let expected = with(switched_on(), &[(0, &[7]), (9, b"^L3^P20^E"), (93, &[9])]);
+    let expected = with(switched_on(), &[(0, &[1, 7]), (13, b"^L3^P20^E"), (97, &[9])]);
     assert_eq!(image, expected);
     for (course, pace) in [([3, 3, 3], 4), ([7, 3, 3], 20), ([3, 3, 2], 20)] {
         assert_eq!(calls::step(&mut image, &mut [0; 28]), 0);
-        assert_eq!(image, with(expected, &[(94, &course), (97, &[pace])]));
+        assert_eq!(image, with(expected, &[(98, &course), (101, &[pace])]));
     }
 }
 
@@ -167,11 +167,11 @@ fn settings_stand_at_their_places() {
     let mut image = switched_on();
     for (id, body) in [(7, b"^P9^=5^XS".as_slice()), (8, b"^XD200^XB30")] {
         assert_eq!(receive(&mut image, &packet(id, body, 0)), 5);
-        while image[93] != 0 {
+        while image[97] != 0 {
             assert_eq!(calls::step(&mut image, &mut [0; 28]), 0);
         }
     }
-    assert_eq!(image, with(switched_on(), &[(0, &[8]), (97, &[9, 5, 1, 200, 30])]));
+    assert_eq!(image, with(switched_on(), &[(0, &[2, 8, 7]), (101, &[9, 5, 1, 200, 30])]));
 }
 
 #[test]
@@ -179,8 +179,8 @@ fn a_reset_clears_the_room() {
     let mut reset = [0; 7];
     write_reset(MID, &mut reset).unwrap();
     for first in [collecting(), running()] {
-        let first = with(first, &[(97, &[20, 6, 1, 99, 2])]);
-        let expected = with(switched_on(), &[(100, &[99, 2])]);
+        let first = with(first, &[(101, &[20, 6, 1, 99, 2])]);
+        let expected = with(switched_on(), &[(104, &[99, 2])]);
         let mut image = first;
         assert_eq!(receive(&mut image, &reset), 2);
         assert_eq!(image, expected);
@@ -194,7 +194,7 @@ fn a_reset_clears_the_room() {
 #[track_caller]
 fn check_stays(first: Image, packet: &[u8], outcome: u8) {
     for sinks in [0, 1] {
-        let first = with(first, &[(99, &[sinks])]);
+        let first = with(first, &[(103, &[sinks])]);
         let mut image = first;
         assert_eq!(receive(&mut image, packet), outcome);
         assert_eq!(image, first);
@@ -222,7 +222,7 @@ fn a_repeat_changes_no_byte() {
 fn an_idle_step_changes_no_byte() {
     for first in [switched_on(), collecting()] {
         for sinks in [0, 1] {
-            let first = with(first, &[(99, &[sinks])]);
+            let first = with(first, &[(103, &[sinks])]);
             let (mut image, mut answer) = (first, [0xEE; 28]);
             assert_eq!(calls::step(&mut image, &mut answer), 0);
             assert_eq!((image, answer), (first, [0; 28]));
@@ -233,13 +233,13 @@ fn an_idle_step_changes_no_byte() {
 #[test]
 fn an_aux_byte_over_1_is_16() {
     for first in [switched_on(), collecting(), running()] {
-        assert!(sound(with(first, &[(99, &[0])])));
-        assert!(sound(with(first, &[(99, &[1])])));
+        assert!(sound(with(first, &[(103, &[0])])));
+        assert!(sound(with(first, &[(103, &[1])])));
         for byte in 2..=255 {
-            check_unsound(with(first, &[(99, &[byte])]));
+            check_unsound(with(first, &[(103, &[byte])]));
         }
     }
-    let mut image = with(running(), &[(99, &[2])]);
+    let mut image = with(running(), &[(103, &[2])]);
     assert_eq!(calls::power_on(&mut image), 0);
     assert_eq!(image, switched_on());
 }
@@ -247,7 +247,7 @@ fn an_aux_byte_over_1_is_16() {
 #[test]
 fn a_busy_image_collects_nothing() {
     assert!(sound(running()));
-    for place in 1..9 {
+    for place in 5..13 {
         for byte in 1..=255 {
             check_unsound(with(running(), &[(place, &[byte])]));
         }
@@ -257,48 +257,48 @@ fn a_busy_image_collects_nothing() {
 #[test]
 fn a_busy_image_is_unsound_with_a_collection_that_would_be_sound_if_ready() {
     let body = [b"^S".as_slice(), &[b'A'; 68]].concat();
-    let busy = with(switched_on(), &[(9, &body), (93, &[70])]);
-    let collection: (usize, &[u8]) = (1, &[8, 6, 14, 14, 14, 14, 14]);
+    let busy = with(switched_on(), &[(13, &body), (97, &[70])]);
+    let collection: (usize, &[u8]) = (5, &[8, 6, 14, 14, 14, 14, 14]);
     assert!(sound(busy));
-    assert!(sound(with(busy, &[collection, (93, &[0])])));
+    assert!(sound(with(busy, &[collection, (97, &[0])])));
     check_unsound(with(busy, &[collection]));
 }
 
 #[test]
 fn a_busy_room_holds_the_body_and_zeros() {
-    for place in 41..93 {
+    for place in 45..97 {
         for byte in 1..=255 {
             check_unsound(with(running(), &[(place, &[byte])]));
         }
     }
     for length in 1..=255u8 {
-        assert_eq!(sound(with(running(), &[(93, &[length])])), length == 32, "{length}");
+        assert_eq!(sound(with(running(), &[(97, &[length])])), length == 32, "{length}");
     }
-    check_unsound(with(switched_on(), &[(10, LONG), (93, &[32])]));
-    check_unsound(with(switched_on(), &[(23, LONG), (93, &[32])]));
+    check_unsound(with(switched_on(), &[(14, LONG), (97, &[32])]));
+    check_unsound(with(switched_on(), &[(27, LONG), (97, &[32])]));
 }
 
 #[test]
 fn a_ready_room_holds_the_packets_and_zeros() {
-    for place in 9..93 {
+    for place in 13..97 {
         for byte in 1..=255 {
             check_unsound(with(switched_on(), &[(place, &[byte])]));
         }
     }
-    for place in (23..37).chain(41..93) {
+    for place in (27..41).chain(45..97) {
         for byte in 1..=255 {
             check_unsound(with(collecting(), &[(place, &[byte])]));
         }
     }
-    for place in (9..23).chain(37..41) {
+    for place in (13..27).chain(41..45) {
         for byte in 0..=255 {
             assert!(sound(with(collecting(), &[(place, &[byte])])));
         }
     }
-    assert!(sound(with(collecting(), &[(9, &[0; 14]), (37, &[0; 4])])));
-    check_unsound(with(running(), &[(93, &[0])]));
-    check_unsound(with(collecting(), &[(93, &[32])]));
-    check_unsound(with(collecting(), &[(1, &[0; 8])]));
+    assert!(sound(with(collecting(), &[(13, &[0; 14]), (41, &[0; 4])])));
+    check_unsound(with(running(), &[(97, &[0])]));
+    check_unsound(with(collecting(), &[(97, &[32])]));
+    check_unsound(with(collecting(), &[(5, &[0; 8])]));
 }
 
 /// Has a packet and a step told into an answer of this size, which must be refused with this number and change nothing.
@@ -316,13 +316,14 @@ fn check_answer(image: &[u8], bytes: &[u8], size: usize, no: u32) {
 fn size_then_soundness_then_answer() {
     let right = packet(1, b"^S", 0);
     for first in [switched_on(), collecting(), running()] {
-        let unsound = [with(first, &[(99, &[2])]), with(first, &[(97, &[0])]), with(first, &[(92, &[1])])];
+        let unsound = [with(first, &[(103, &[2])]), with(first, &[(101, &[0])]), with(first, &[(96, &[1])])];
         for size in [0, 1, 4, 16, 27, 28, 99] {
             for bytes in [&right, &right[1..], &[]] {
                 check_answer(&first, bytes, size, 252);
                 for image in unsound {
                     check_answer(&image, bytes, size, 16);
                     check_answer(&image[1..], bytes, size, 251);
+                    check_answer(&image[4..], bytes, size, 251);
                 }
             }
         }
@@ -332,7 +333,7 @@ fn size_then_soundness_then_answer() {
 #[test]
 fn soundness_before_the_packet_and_the_buffer() {
     for first in [switched_on(), collecting(), running()] {
-        let mut unsound = with(first, &[(99, &[2])]);
+        let mut unsound = with(first, &[(103, &[2])]);
         assert_eq!(calls::receive(&mut unsound, MID, &[], &mut [0; 100]), 16);
         assert_eq!(calls::reply(&unsound, MID, 0, &mut [0; 7]), 16);
         assert_eq!(calls::copy_body(&unsound, &mut []), 16);
@@ -346,8 +347,8 @@ fn soundness_before_the_packet_and_the_buffer() {
 fn an_image_is_a_record_and_back() {
     for (first, length) in [(0x5A, 0), (0x5A, 7), (0xA5, 0), (0xA5, 255)] {
         let mut image: Image = std::array::from_fn(|index| index as u8 ^ first);
-        image[93] = length;
-        let mut back = [0xEE; 102];
+        image[97] = length;
+        let mut back = [0xEE; 106];
         Sign::from_image(&image).write_image(&mut back);
         assert_eq!(back, image);
     }

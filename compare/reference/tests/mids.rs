@@ -112,36 +112,35 @@ const WRONG: [(u32, &[u8], &[u8]); 11] = [
 /// Sizes around what the calls write: 7, 8, 12 and 20 bytes, and 100 for what a packet did.
 const ROOMS: [usize; 13] = [0, 1, 6, 7, 8, 11, 12, 19, 20, 99, 100, 101, 130];
 
-type Image = [u8; 102];
+type Image = [u8; 106];
 
 /// A sign just switched on.
 fn switched_on() -> Image {
-    let mut image = [0; 102];
-    image[0] = 0x41;
-    image[97..].copy_from_slice(&[4, 1, 0, 16, 0]);
+    let mut image = [0; 106];
+    image[101..].copy_from_slice(&[4, 1, 0, 16, 0]);
     image
 }
 
 /// A sign that collects ID 5 of two packets and holds the first.
 fn collecting() -> Image {
     let mut image = switched_on();
-    image[1..4].copy_from_slice(&[5, 2, 14]);
-    image[9..23].copy_from_slice(b"^IIHI^W5^W5^W5");
+    image[5..8].copy_from_slice(&[5, 2, 14]);
+    image[13..27].copy_from_slice(b"^IIHI^W5^W5^W5");
     image
 }
 
 /// A sign that runs `^W5`, the message that it completed as ID 4.
 fn running() -> Image {
     let mut image = switched_on();
-    image[0] = 4;
-    image[9..12].copy_from_slice(b"^W5");
-    image[93] = 3;
+    image[..2].copy_from_slice(&[1, 4]);
+    image[13..16].copy_from_slice(b"^W5");
+    image[97] = 3;
     image
 }
 
 /// A sign whose AUX drive is neither float nor sink.
 fn unsound(mut image: Image) -> Image {
-    image[99] = 2;
+    image[103] = 2;
     image
 }
 
@@ -293,7 +292,9 @@ fn after_the_image_size_and_the_unsound_record() {
     for line in &FORBIDDEN {
         for image in [switched_on(), collecting(), running()] {
             for room in ROOMS {
-                for (no, image) in [(16, &unsound(image)[..]), (251, &[]), (251, &image[1..]), (251, &[0x41; 103])] {
+                for (no, image) in
+                    [(16, &unsound(image)[..]), (251, &[]), (251, &image[1..]), (251, &image[4..]), (251, &[0; 107])]
+                {
                     refused(no, image, room, |image, out| calls::receive(image, line.mid, &line.packet, out));
                     refused(no, image, room, |image, out| calls::receive(image, line.mid, &[], out));
                     refused(no, image, room, |image, out| calls::reply(image, line.mid, 0, out));

@@ -1,9 +1,13 @@
 //! Joining, resets, soundness and the repeater.
 //! Answers to 01, "Joining" and the paragraph on sound records.
 
+use reference::completed::Completed;
 use reference::no::No;
 use reference::packet::{write_packet, write_query, write_reset};
 use reference::sign::{Received, Sign, repeat, stretch};
+
+/// The completed IDs after ID 9 alone.
+const NINE: Completed = Completed { count: 1, ids: [9, 0, 0, 0] };
 
 const LONG: &[u8] = b"^II0123456789 twenty-nine^W99^XS";
 
@@ -43,7 +47,7 @@ fn packets_join_in_any_order() {
         assert_eq!(hear(&mut sign, 9, LONG, order[1]), Ok(Received::Stored));
         let Ok(Received::Released(released)) = hear(&mut sign, 9, LONG, order[2]) else { panic!() };
         assert_eq!((&released.body[..released.length as usize], released.refusal), (LONG, None));
-        assert_eq!((sign.last, sign.total, sign.length as usize), (9, 0, LONG.len()));
+        assert_eq!((sign.completed, sign.total, sign.length as usize), (NINE, 0, LONG.len()));
         assert_eq!(hear(&mut sign, 9, LONG, 0), Ok(Received::Repeat));
         assert_eq!(hear(&mut sign, 10, LONG, 0), Err(No::Busy));
     }
@@ -60,7 +64,7 @@ fn others_drop_or_clash() {
     assert_eq!(hear(&mut sign, 8, LONG, 1), Ok(Received::Stored));
     assert_eq!((sign.id, sign.lens), (8, [0, 14, 0, 0, 0, 0]));
     assert!(matches!(hear(&mut sign, 9, b"^W1", 0), Ok(Received::Released(_))));
-    assert_eq!((sign.id, sign.total, sign.last), (0, 0, 9));
+    assert_eq!((sign.id, sign.total, sign.completed), (0, 0, NINE));
 }
 
 #[test]
@@ -69,7 +73,8 @@ fn a_refused_body_is_released_and_leaves_the_sign_ready() {
     let Ok(Received::Released(released)) = hear(&mut sign, 0, b"^P1^P21", 0) else { panic!() };
     let refusal = released.refusal.unwrap();
     assert_eq!((refusal.no, refusal.place), (No::Number, 3));
-    assert_eq!(sign, Sign { last: 0, ..Sign::power_on() });
+    let zero = Completed { count: 1, ids: [0; 4] };
+    assert_eq!(sign, Sign { completed: zero, ..Sign::power_on() });
     assert_eq!(hear(&mut sign, 0, b"^P1", 0), Ok(Received::Repeat));
     hear(&mut sign, 1, LONG, 0).unwrap();
     assert_eq!(hear(&mut sign, 0, b"^P1", 0), Ok(Received::Repeat));
@@ -134,10 +139,9 @@ fn sound_with(sign: &Sign, change: impl Fn(&mut Sign)) -> bool {
 }
 
 #[test]
-fn settings_and_last_id_in_range() {
+fn settings_in_range() {
     for sign in [Sign::power_on(), busy(LONG)] {
         for byte in 0..=255 {
-            assert_eq!(sound_with(&sign, |sign| sign.last = byte), byte < 0x40 || byte == 0x41);
             assert_eq!(sound_with(&sign, |sign| sign.settings.pace = byte), (1..=20).contains(&byte));
             assert_eq!(sound_with(&sign, |sign| sign.settings.scans = byte), (1..=6).contains(&byte));
             assert_eq!(sound_with(&sign, |sign| sign.settings.sink = byte), byte < 2);
@@ -154,7 +158,6 @@ fn sound_collections() {
     hear(&mut sign, 9, LONG, 2).unwrap();
     for byte in 0..=255 {
         assert_eq!(sound_with(&sign, |sign| sign.id = byte), byte < 0x40);
-        assert_eq!(sound_with(&sign, |sign| sign.last = byte), (byte < 0x40 && byte != 9) || byte == 0x41);
         assert_eq!(sound_with(&sign, |sign| sign.total = byte), byte == 3);
         assert_eq!(sound_with(&sign, |sign| sign.lens[0] = byte), byte == 14);
         assert_eq!(sound_with(&sign, |sign| sign.lens[1] = byte), byte == 0);

@@ -1,5 +1,5 @@
 -- Laws of byte lists: an element is a byte, and a list that ends in two known elements.
-use Prim.Native.Nat.{ℕ, zero, suc, _+_, _≤_, _<_}
+use Prim.Native.Nat.{ℕ, zero, suc, _+_, _-_, _≤_, _<_}
 use mathlib.Core.Path.{_≡_, refl, sym, ap, _∙_}
 use mathlib.Core.List.{List, [], _∷_, _++_}
 use native.Mathlib.Omega.{arith}
@@ -16,6 +16,17 @@ byte-at (x ∷ xs) (suc i) h = byte-at xs i (h .1)
 -- a stretch that lies within a list has its length
 pub cut-length : (b : List ℕ) (at n : ℕ) → at + n ≤ length b → length (take n (drop at b)) ≡ n
 cut-length b at n h = simp (length-take, length-drop) (omega arith)
+
+-- what is left of a stretch after its first elements
+pub drop-take : (n k : ℕ) (s : List ℕ) → n ≤ k → drop n (take k s) ≡ take (k - n) (drop n s)
+drop-take zero k s h = let e : k ≡ k - 0 = omega arith in ap (λ (m : ℕ). take m s) e
+drop-take (suc n) zero s h = absurd (omega arith)
+drop-take (suc n) (suc k) [] h = nil (suc k - suc n)
+  where
+    nil : (m : ℕ) → _≡_ {A = List ℕ} [] (take m [])
+    nil zero = refl
+    nil (suc m) = refl
+drop-take (suc n) (suc k) (x ∷ xs) h = let e : k - n ≡ suc k - suc n = omega arith in drop-take n k xs (omega arith) ∙ ap (λ (m : ℕ). take m (drop n xs)) e
 
 -- all but the last two, and the last two
 pub two-behind : (b : List ℕ) (k : ℕ) → length b ≡ k + 2 → b ≡ take k b ++ getD b k 0 ∷ getD b (suc k) 0 ∷ []

@@ -5,6 +5,7 @@ use crate::show::received;
 use crate::show::repeated;
 use crate::show::replied;
 use crate::show::stepped;
+use completed::Completed;
 use input::line_end;
 use input::pair;
 use sign::Sign;
@@ -64,6 +65,19 @@ fn line_received_by(sign: Sign, text: &[u8]) -> Sign {
     heard_by(sign, &bytes, n)
 }
 
+// The sign with the completed IDs that a line writes: how many, and the four bytes, sound or not.
+fn line_known(sign: Sign, text: &[u8]) -> Sign {
+    let mut bytes = [0u8; 5];
+    decode(text, &mut bytes);
+    let completed = Completed {
+        count: bytes[0],
+        ids: [bytes[1], bytes[2], bytes[3], bytes[4]],
+    };
+    let mut next = sign;
+    next.completed = completed;
+    next
+}
+
 // One thing done to the sign.
 fn done(sign: Sign, text: &[u8]) -> Sign {
     if text.len() == 0 {
@@ -94,10 +108,8 @@ fn done(sign: Sign, text: &[u8]) -> Sign {
     if what == b't' {
         return repeated(sign, text);
     }
-    if what == b'x' {
-        let mut ill = sign;
-        ill.completed.last = 0x40;
-        return ill;
+    if what == b'k' {
+        return line_known(sign, text);
     }
     Sign::power_on()
 }

@@ -32,7 +32,7 @@ use Rattle.sign.specs.declared.Received.{Received}
 use Rattle.sign.specs.declared.Stepped.{Stepped}
 use Rattle.sign.proofs.Joining.{unsound-receives, forbidden-receives}
 use Rattle.sign.proofs.Stepping.{unsound-steps}
-use Rattle.image.specs.Layout.{recordOf}
+use Rattle.image.specs.Layout.{imageSize, recordOf}
 use Rattle.words.specs.Words.{wordsOf, wroteOf}
 use Rattle.words.specs.Told.{answerRow, firstOr, toldIn}
 use Rattle.words.specs.Says.{receivedBytes}
@@ -44,13 +44,13 @@ tells h e = record { told = e ∙ ap wroteOf (h .answered); left = h .left }
 
 -- the same of a sign in an image of the right size
 pub sign-tells : (rows : Sign → List Row) (bytes : Sign → List ℕ) (image out : List ℕ) {after : List ℕ} {s : Sign} {w : Written} {r : ℕ}
-    → length image ≡ 102
+    → length image ≡ imageSize
     → s ≡ recordOf image → Writes (rows s) (bytes s) out w after → r ≡ wroteOf w
     → Tells (imageRow image ∷ rows (recordOf image)) (bytes (recordOf image)) out r after
 sign-tells rows bytes image out {after} {s} {w} size e h er =
     let own = rows (recordOf image) in
     let h′ = subst (λ (x : Sign). Writes (rows x) (bytes x) out w after) e h in
-    let guard : firstOf own ≡ firstOf (imageRow image ∷ own) = sym (when-false _ 251 (firstOf own) (ap not (eq-eqb (length image) 102 size))) in
+    let guard : firstOf own ≡ firstOf (imageRow image ∷ own) = sym (when-false _ 251 (firstOf own) (ap not (eq-eqb (length image) imageSize size))) in
     record {
       told = er ∙ ap wroteOf (h′ .answered ∙ ap (λ (n : ℕ). answerOf n (bytes (recordOf image))) guard);
       left = h′ .left ∙ ap (λ (n : ℕ). bufferOf n (bytes (recordOf image)) out) guard;
@@ -74,11 +74,11 @@ pub kept-yes : (n : ℕ) (as-was next : List ℕ) → n ≡ 0 → next ≡ keptO
 kept-yes n as-was next h = sym (when-true (eqb n 0) next as-was (eq-eqb n 0 h))
 
 -- the guard lets pass what the call itself refuses by 16 where the record is unsound
-pub guard-is : (image : List ℕ) (rows : List Row) (n : ℕ) → length image ≡ 102 → (soundOf (recordOf image) ≡ false → n ≡ 16)
+pub guard-is : (image : List ℕ) (rows : List Row) (n : ℕ) → length image ≡ imageSize → (soundOf (recordOf image) ≡ false → n ≡ 16)
     → (soundOf (recordOf image) ≡ true → firstOr rows n ≡ n)
     → n ≡ firstOr (guarded image rows) n
 guard-is image rows n size ill own =
-    sym (when-false _ 251 (when (not (soundOf (recordOf image))) 16 (firstOr rows n)) (ap not (eq-eqb (length image) 102 size)) ∙ go (soundOf (recordOf image)) refl)
+    sym (when-false _ 251 (when (not (soundOf (recordOf image))) 16 (firstOr rows n)) (ap not (eq-eqb (length image) imageSize size)) ∙ go (soundOf (recordOf image)) refl)
   where
     go : (t : Bool) → soundOf (recordOf image) ≡ t → when (not t) 16 (firstOr rows n) ≡ n
     go true e = own e
@@ -141,14 +141,14 @@ module _ (rows : List Row) (image answer : List ℕ) (n : ℕ) (bytes next : Lis
   stays-went r e h = (e, (kept-no _ image next (λ z. h (e ∙ z)), kept-no _ answer (laid bytes answer) (λ z. h (e ∙ z))))
 
   -- an image of another size
-  pub unsized : (length image ≡ 102 → ⊥) → Went 251 image answer
+  pub unsized : (length image ≡ imageSize → ⊥) → Went 251 image answer
   unsized h =
       stays-went 251
-      (sym (when-true _ 251 (when (not (soundOf (recordOf image))) 16 (firstOr rows n)) (ap not (ne-eqb (length image) 102 h))))
+      (sym (when-true _ 251 (when (not (soundOf (recordOf image))) 16 (firstOr rows n)) (ap not (ne-eqb (length image) imageSize h))))
       (λ z. omega arith)
 
   -- an answer that is too short
-  pub too-short : (s : Sign) (r then : ℕ) → length image ≡ 102 → firstOr rows n ≡ then → (then ≡ 0 → ⊥) → s ≡ recordOf image
+  pub too-short : (s : Sign) (r then : ℕ) → length image ≡ imageSize → firstOr rows n ≡ then → (then ≡ 0 → ⊥) → s ≡ recordOf image
       → r ≡ when (soundOf s) then 16
       → Went r image answer
   too-short s r then fits why other es er =
@@ -161,7 +161,7 @@ module _ (rows : List Row) (image answer : List ℕ) (n : ℕ) (bytes next : Lis
 
       whole : firstOr (guarded image rows) n ≡ when (soundOf (recordOf image)) then 16
       whole =
-          when-false _ 251 (when (not (soundOf (recordOf image))) 16 (firstOr rows n)) (ap not (eq-eqb (length image) 102 fits))
+          when-false _ 251 (when (not (soundOf (recordOf image))) 16 (firstOr rows n)) (ap not (eq-eqb (length image) imageSize fits))
           ∙ ap (λ (k : ℕ). when (not (soundOf (recordOf image))) 16 k) why
           ∙ turned (soundOf (recordOf image))
 
@@ -169,7 +169,7 @@ module _ (rows : List Row) (image answer : List ℕ) (n : ℕ) (bytes next : Lis
       never true z = other z
       never false z = omega arith
 
-  module _ (size : ℕ) (fits : length image ≡ 102) (room : size ≤ length answer) (ill : soundOf (recordOf image) ≡ false → n ≡ 16)
+  module _ (size : ℕ) (fits : length image ≡ imageSize) (room : size ≤ length answer) (ill : soundOf (recordOf image) ≡ false → n ≡ 16)
       (past : soundOf (recordOf image) ≡ true → firstOr rows n ≡ n) {r : ℕ} {answer′ : List ℕ}
       (told : r ≡ firstOr (answerRow size answer ∷ []) n)
       (after : answer′ ≡ toldIn size bytes answer) where
@@ -200,7 +200,7 @@ module _ (rows : List Row) (image answer : List ℕ) (n : ℕ) (bytes next : Lis
         (sym zero′, (e ∙ kept-yes _ image next zero′, written ∙ kept-yes _ answer (laid bytes answer) zero′))
 
 -- a call without an answer, in an image of the right size: what is lent stays where it is refused
-module _ (image : List ℕ) (n : ℕ) (next : List ℕ) (fits : length image ≡ 102) (ill : soundOf (recordOf image) ≡ false → n ≡ 16) where
+module _ (image : List ℕ) (n : ℕ) (next : List ℕ) (fits : length image ≡ imageSize) (ill : soundOf (recordOf image) ≡ false → n ≡ 16) where
   pub no-answer : (n ≡ 0 → ⊥) → (n ≡ firstOr (guarded image []) n) × (image ≡ keptOf (firstOr (guarded image []) n) image next)
   no-answer h = let all = guard-is image [] n fits ill (λ e. refl) in (all, kept-no _ image next (λ z. h (all ∙ z)))
 

@@ -21,7 +21,7 @@ use Rattle.sign.specs.Reset.{powerOn, clearedOf}
 use Rattle.sign.specs.Receive.{receiveOf}
 use Rattle.sign.specs.Step.{stepOf}
 use Rattle.sign.specs.Tell.{toldRows}
-use Rattle.image.specs.Layout.{imageOf, recordOf}
+use Rattle.image.specs.Layout.{imageSize, imageOf, recordOf}
 use Rattle.words.specs.Words.{wordsOf, wroteOf}
 use Rattle.words.specs.Told.{answerRow, firstOr, toldIn, foretoldResult}
 use Rattle.words.specs.Says.{receivedBytes}
@@ -53,7 +53,7 @@ forecastAnswer body pace each answer = toldIn 24 (wordsOf (forecastTold (forecas
 
 -- 251: an image of another size
 abbrev pub imageRow : List ℕ → Row
-imageRow image = 251 if not (eqb (length image) 102)
+imageRow image = 251 if not (eqb (length image) imageSize)
 
 -- the guard of a call on a sign: 251, then 16 for a record that is not sound, before the call's own rows
 abbrev pub guarded : List ℕ → List Row → List Row

@@ -6,16 +6,16 @@ use sign::Sign;
 ghost use mathlib.Core.Path.{_≡_};
 ghost use lib.ListN.{length};
 ghost use Rattle.basis.specs.Choice.{when};
-ghost use Rattle.image.specs.Layout.{imageOf, recordOf};
+ghost use Rattle.image.specs.Layout.{imageSize, imageOf, recordOf};
 ghost use Rattle.packet.specs.Mid.{isForbidden};
 ghost use Rattle.sign.specs.Sound.{soundOf};
 
 // The size of an image.
-pub(crate) const SIZE: usize = 102;
+pub(crate) const SIZE: usize = 106;
 
 // The record in a lent image.
 pub(crate) fn load(image: &[u8]) -> Sign
-    requires { ⌜ length (now image) ≡ 102 ⌝ }
+    requires { ⌜ length (now image) ≡ imageSize ⌝ }
     ensures { λ r. ⌜ r ≡ recordOf (now (image .entry)) ⌝ }
 {
     let mut held = [0; SIZE];
@@ -25,7 +25,7 @@ pub(crate) fn load(image: &[u8]) -> Sign
 
 // Writes the image of a record over a lent one.
 pub(crate) fn store(sign: Sign, image: &mut [u8])
-    requires { ⌜ length (now image) ≡ 102 ⌝ }
+    requires { ⌜ length (now image) ≡ imageSize ⌝ }
     ensures { λ _. ⌜ now (image .exit) ≡ imageOf sign ⌝ }
 {
     let held = image_of(sign);

@@ -14,6 +14,7 @@ use Rattle.basis.specs.Bytes.{laid}
 use Rattle.basis.specs.Choice.{when, _and_, _or_}
 use Rattle.basis.proofs.Choices.{and-parts, when-true, when-false}
 use Rattle.room.specs.Room.{zerosOf}
+use Rattle.room.proofs.Unused.{all-zeros}
 use Rattle.collect.specs.Slots.{ruleOf, oneOf, heldOf, slotsOf, joinedOf}
 use Rattle.collect.proofs.Turns.{rule-most, one-most}
 
@@ -58,15 +59,6 @@ held-most total position (len ∷ lens) room e =
     dite (decLe total position)
     (λ past. omega (arith, one-none len (rule-past total position len past (f .rule))))
     (λ before. omega (arith, one-most len))
-
--- zeros are a replicate
-pub all-zeros : (s : List ℕ) → zerosOf s ≡ true → s ≡ replicate (length s) 0
-all-zeros [] e = refl
-all-zeros (x ∷ xs) e =
-    let p = and-parts (eqb x 0) (zerosOf xs) e in
-    let z : x ≡ 0 = eqb-true x 0 (p .0) in
-    let r : xs ≡ replicate (length xs) 0 = all-zeros xs (p .1) in
-    ap (λ (y : ℕ). y ∷ xs) z ∙ ap (λ (ys : List ℕ). 0 ∷ ys) r
 
 -- from N on the room holds zeros, and nothing is joined
 pub past-room : (total position : ℕ) (lens room : List ℕ) → total ≤ position → slotsOf total position lens room ≡ true

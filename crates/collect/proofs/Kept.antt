@@ -10,18 +10,14 @@ use lib.Seq.{drop-append-seam, drop-append-le, take-append-le, drop-drop, drop-a
 use borrow.Author.Tests.{ne-eqb}
 use Rattle.basis.specs.Bytes.{laid}
 use Rattle.basis.specs.Choice.{when, _and_}
+use Rattle.basis.proofs.Bytes.{drop-take}
 use Rattle.basis.proofs.Choices.{and-true, and-parts}
 use Rattle.room.specs.Room.{zerosOf}
+use Rattle.room.proofs.Unused.{zeros-drop}
 use Rattle.collect.specs.Slots.{ruleOf, oneOf, heldOf, slotsOf}
 use Rattle.collect.proofs.Rooms.{laid-on}
-use Rattle.collect.proofs.Turns.{drop-take, rule-most}
+use Rattle.collect.proofs.Turns.{rule-most}
 use Rattle.collect.proofs.Joined.{First, first}
-
--- zeros behind zeros
-zeros-drop : (n : ℕ) (s : List ℕ) → zerosOf s ≡ true → zerosOf (drop n s) ≡ true
-zeros-drop zero s e = e
-zeros-drop (suc n) [] e = refl
-zeros-drop (suc n) (x ∷ xs) e = zeros-drop n xs (and-parts (eqb x 0) (zerosOf xs) e .1)
 
 -- a slot made of its parts
 made : (total position len : ℕ) (lens room : List ℕ) → First total position len lens room → slotsOf total position (len ∷ lens) room ≡ true

@@ -7,10 +7,11 @@ use native.Mathlib.Omega.{arith}
 use lib.ListN.{length, take, drop, length-drop, take-append-drop}
 use lib.Seq.{take-add, length-take-le}
 use Rattle.room.specs.Room.{zerosOf}
+use Rattle.room.proofs.Unused.{all-zeros}
 use Rattle.collect.specs.Slots.{slotsOf, packetsOf}
 use Rattle.collect.specs.Slots.{Collection}
 use Rattle.collect.proofs.Turns.{rule-most}
-use Rattle.collect.proofs.Joined.{first, all-zeros, blank}
+use Rattle.collect.proofs.Joined.{first, blank}
 
 -- a slot is its data and zeros
 slot-is : (len : ℕ) (room : List ℕ) → len ≤ 14 → 14 ≤ length room → zerosOf (take (14 - len) (drop len room)) ≡ true

@@ -9,6 +9,7 @@ use lib.Dec.{eqb, leb}
 use lib.ListN.{length, getD, take, drop, length-drop, drop-of-length-le, take-append-drop}
 use lib.Seq.{drop-cons, drop-drop}
 use borrow.Author.Tests.{leb-true, le-leb, eqb-true}
+use Rattle.basis.proofs.Bytes.{drop-take}
 use Rattle.basis.specs.Choice.{when, _and_, _or_}
 use Rattle.basis.proofs.Bytes.{cut-length}
 use Rattle.basis.proofs.Choices.{when-true}
@@ -99,17 +100,6 @@ one-most len = go (eqb len 0)
     go : (t : Bool) → when t 0 1 ≤ 1
     go true = omega arith
     go false = omega arith
-
--- what is left of a stretch behind its first elements
-pub drop-take : (n k : ℕ) (s : List ℕ) → n ≤ k → drop n (take k s) ≡ take (k - n) (drop n s)
-drop-take zero k s h = let e : k ≡ k - 0 = omega arith in ap (λ (m : ℕ). take m s) e
-drop-take (suc n) zero s h = absurd (omega arith)
-drop-take (suc n) (suc k) [] h = nil (suc k - suc n)
-  where
-    nil : (m : ℕ) → _≡_ {A = List ℕ} [] (take m [])
-    nil zero = refl
-    nil (suc m) = refl
-drop-take (suc n) (suc k) (x ∷ xs) h = let e : k - n ≡ suc k - suc n = omega arith in drop-take n k xs (omega arith) ∙ ap (λ (m : ℕ). take m (drop n xs)) e
 
 -- a slot that the code lends has 14 bytes
 pub slot-length : (room : List ℕ) (i : ℕ) → 14 * i + 14 ≤ length room → length (take (14 * i + 14 - 14 * i) (drop (14 * i) room)) ≡ 14

@@ -1,49 +1,14 @@
-// The IDs that a sign has completed (J1): which are Repeats (J4), which is told as the last (W10), and what a completion
-// (J10) and a reset (J14) leave of them.
-ghost use mathlib.Core.Path.{_≡_};
-ghost use Rattle.completed.specs.Completed.{noneOf, lastOf, hasOf, addedOf, soundOf};
+// The IDs that a sign has completed since its reset, the last four of them (J1; C-23).
+//   known  which are Repeats, which is told as the last, and one more      J4, J10, J13, J14, W10
+//   sound  which of these parts of a record are sound                      R2, R5
+// specs/Completed has them as a list, the newest first.
+mod known;
+mod sound;
 
-// The last completed ID, 41h if there is none.
+pub use known::none;
+
+// How many there are, and the IDs, the newest first. Room for IDs that aren't there holds zeros; 0 is an ID too.
 pub struct Completed {
-    pub last: u8,
-}
-
-// No ID was completed since the reset.
-pub fn none() -> Completed
-    ensures { λ r. ⌜ r ≡ noneOf ⌝ }
-{
-    Completed { last: 0x41 }
-}
-
-impl Completed {
-    // The last completed ID, as the reply tells it.
-    pub fn last(self) -> u8
-        ensures { λ r. ⌜ r ≡ lastOf self ⌝ }
-    {
-        self.last
-    }
-
-    // Whether packets of this ID are Repeats.
-    pub fn has(self, id: u8) -> bool
-        ensures { λ r. ⌜ r ≡ hasOf self id ⌝ }
-    {
-        id == self.last
-    }
-
-    // The same after this ID is completed.
-    pub fn with(self, id: u8) -> Completed
-        ensures { λ r. ⌜ r ≡ addedOf self id ⌝ }
-    {
-        Completed { last: id }
-    }
-
-    // Whether this part of the record is sound.
-    pub fn sound(self) -> bool
-        ensures { λ r. ⌜ r ≡ soundOf self ⌝ }
-    {
-        if self.last <= 0x3f {
-            return true;
-        }
-        self.last == 0x41
-    }
+    pub count: u8,
+    pub ids: [u8; 4],
 }

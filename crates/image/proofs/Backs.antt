@@ -1,4 +1,4 @@
--- An image read back gives its record, and every image of 102 bytes is some record, whose image it is.
+-- An image read back gives its record, and every image of 106 bytes is some record, whose image it is.
 use Prim.Native.Nat.{ℕ, zero, suc, _+_, _%_, _≤_, _<_}
 use mathlib.Core.Bool.{Bool, true, false}
 use mathlib.Core.List.{List, [], _∷_, _++_}
@@ -26,6 +26,7 @@ use Rattle.image.specs.Layout.{runBytes, imageOf, recordOf}
 
 -- the arrays of a record have their lengths, which its type says
 pub record Shaped (s : Sign) : Type 0 where
+  pub ids : length (s .completed .ids) ≡ 4
   pub lens : length (s .slots .lens) ≡ 6
   pub room : length (s .room) ≡ 84
 
@@ -35,22 +36,48 @@ pub record Small (s : Sign) : Type 0 where
   pub place : s .run .place < 256
   pub behind : s .run .inner .place < 256
 
--- the three parts of an image after its first three bytes
-module _ (x y rest : List ℕ) (lx : length x ≡ 6) (ly : length y ≡ 84) where
-  at-lens : take 6 (x ++ (y ++ rest)) ≡ x
-  at-lens = take-at x (y ++ rest) 6 lx
+-- the parts of an image after its first byte: the completed IDs, two bytes, the lengths, the room and the run
+module _ (w x y rest : List ℕ) (id total : ℕ) (lw : length w ≡ 4) (lx : length x ≡ 6) (ly : length y ≡ 84) where
+  abbrev tail : List ℕ
+  tail = id ∷ total ∷ (x ++ (y ++ rest))
 
-  at-room : take 84 (drop 6 (x ++ (y ++ rest))) ≡ y
-  at-room = ap (take 84) (drop-at x (y ++ rest) 6 lx) ∙ take-at y rest 84 ly
+  at-ids : take 4 (w ++ (id ∷ total ∷ (x ++ (y ++ rest)))) ≡ w
+  at-ids = take-at w tail 4 lw
+
+  past-ids : (n : ℕ) → drop (4 + n) (w ++ (id ∷ total ∷ (x ++ (y ++ rest)))) ≡ drop n tail
+  past-ids n = let e : 4 + n ≡ n + 4 = omega arith in ap (λ (k : ℕ). drop k (w ++ tail)) e ∙ swap (w ++ tail) ∙ ap (drop n) (drop-at w tail 4 lw)
+    where
+      swap : (l : List ℕ) → drop (n + 4) l ≡ drop n (drop 4 l)
+      swap l = let f : n + 4 ≡ 4 + n = omega arith in ap (λ (k : ℕ). drop k l) f ∙ sym (drop-drop n 4 l)
+
+  at-tail : (i : ℕ) → getD (w ++ (id ∷ total ∷ (x ++ (y ++ rest)))) (4 + i) 0 ≡ getD tail i 0
+  at-tail i = sym (getD-drop 4 (w ++ tail) i 0) ∙ ap (λ (l : List ℕ). getD l i 0) (drop-at w tail 4 lw)
+
+  at-lens : take 6 (drop 6 (w ++ (id ∷ total ∷ (x ++ (y ++ rest))))) ≡ x
+  at-lens = ap (take 6) (past-ids 2) ∙ take-at x (y ++ rest) 6 lx
+
+  at-room : take 84 (drop 12 (w ++ (id ∷ total ∷ (x ++ (y ++ rest))))) ≡ y
+  at-room = ap (take 84) (past-ids 8 ∙ drop-at x (y ++ rest) 6 lx) ∙ take-at y rest 84 ly
 
   past-room : drop 90 (x ++ (y ++ rest)) ≡ rest
   past-room = sym (drop-drop 84 6 (x ++ (y ++ rest))) ∙ ap (drop 84) (drop-at x (y ++ rest) 6 lx) ∙ drop-at y rest 84 ly
 
-  at-rest : (i : ℕ) → getD (x ++ (y ++ rest)) (90 + i) 0 ≡ getD rest i 0
-  at-rest i = sym (getD-drop 90 (x ++ (y ++ rest)) i 0) ∙ ap (λ (l : List ℕ). getD l i 0) past-room
+  at-rest : (i : ℕ) → getD (w ++ (id ∷ total ∷ (x ++ (y ++ rest)))) (96 + i) 0 ≡ getD rest i 0
+  at-rest i =
+      let e : 96 + i ≡ 4 + (92 + i) = omega arith in
+      let f : 92 + i ≡ suc (suc (90 + i)) = omega arith in
+      ap (λ (k : ℕ). getD (w ++ tail) k 0) e
+      ∙ at-tail (92 + i)
+      ∙ ap (λ (k : ℕ). getD tail k 0) f
+      ∙ sym (getD-drop 90 (x ++ (y ++ rest)) i 0)
+      ∙ ap (λ (l : List ℕ). getD l i 0) past-room
 
 -- a record by its fields
-fields : (s : Sign) (x y : List ℕ) (len place behind left pace scans sink dim bright : ℕ) → x ≡ s .slots .lens → y ≡ s .room → len ≡ s .run .len
+fields : (s : Sign) (w x y : List ℕ) (id total len place behind left pace scans sink dim bright : ℕ) → w ≡ s .completed .ids → id ≡ s .slots .id
+    → total ≡ s .slots .total
+    → x ≡ s .slots .lens
+    → y ≡ s .room
+    → len ≡ s .run .len
     → place ≡ s .run .place
     → behind ≡ s .run .inner .place
     → left ≡ s .run .inner .left
@@ -61,8 +88,8 @@ fields : (s : Sign) (x y : List ℕ) (len place behind left pace scans sink dim 
     → bright ≡ s .run .settings .bright
     → _≡_ {A = Sign}
     (record {
-      completed = s .completed;
-      slots = record { id = s .slots .id; total = s .slots .total; lens = x };
+      completed = record { count = s .completed .count; ids = w };
+      slots = record { id = id; total = total; lens = x };
       room = y;
       run =
           record {
@@ -73,30 +100,39 @@ fields : (s : Sign) (x y : List ℕ) (len place behind left pace scans sink dim 
           };
     })
     s
-fields s x y len place behind left pace scans sink dim bright ex ey e1 e2 e3 e4 e5 e6 e7 e8 e9 =
-    rw (ex, ey, e1, e2, e3, e4, e5, e6, e7, e8, e9)
+fields s w x y id total len place behind left pace scans sink dim bright ew ei et ex ey e1 e2 e3 e4 e5 e6 e7 e8 e9 =
+    rw (ew, ei, et, ex, ey, e1, e2, e3, e4, e5, e6, e7, e8, e9)
 
--- an image of a record has 102 bytes
-pub image-size : (s : Sign) → Shaped s → length (imageOf s) ≡ 102
+-- an image of a record has 106 bytes
+pub image-size : (s : Sign) → Shaped s → length (imageOf s) ≡ 106
 unfolding imageOf
 image-size s h =
+    let d = s .completed .ids in
     let l = s .slots .lens in
     let r = s .room in
     let p = runBytes (s .run) in
-    omega (arith, h .lens, h .room, length-append l (r ++ p), length-append r p)
+    omega (arith, h .ids, h .lens, h .room, length-append d (s .slots .id ∷ s .slots .total ∷ (l ++ (r ++ p))), length-append l (r ++ p), length-append r p)
 
 -- reading an image back gives the record
 pub record-back : (s : Sign) → Shaped s → Small s → recordOf (imageOf s) ≡ s
 unfolding recordOf imageOf
 record-back s h small =
+    let d = s .completed .ids in
+    let i = s .slots .id in
+    let t = s .slots .total in
     let l = s .slots .lens in
     let r = s .room in
     let p = runBytes (s .run) in
-    let rest = at-rest l r p (h .lens) (h .room) in
+    let tail = at-tail d l r p i t (h .ids) (h .lens) (h .room) in
+    let rest = at-rest d l r p i t (h .ids) (h .lens) (h .room) in
     let n : s .run .len % 256 ≡ s .run .len = omega (arith, small .len) in
     let q : s .run .place % 256 ≡ s .run .place = omega (arith, small .place) in
     let k : s .run .inner .place % 256 ≡ s .run .inner .place = omega (arith, small .behind) in
-    fields s _ _ _ _ _ _ _ _ _ _ _ (at-lens l r p (h .lens) (h .room)) (at-room l r p (h .lens) (h .room)) (rest 0 ∙ n) (rest 1 ∙ q)
+    fields s _ _ _ _ _ _ _ _ _ _ _ _ _ _ (at-ids d l r p i t (h .ids) (h .lens) (h .room)) (tail 0) (tail 1)
+    (at-lens d l r p i t (h .ids) (h .lens) (h .room))
+    (at-room d l r p i t (h .ids) (h .lens) (h .room))
+    (rest 0 ∙ n)
+    (rest 1 ∙ q)
     (rest 2 ∙ k)
     (rest 3)
     (rest 4)
@@ -139,10 +175,10 @@ sound-small s h sound =
 pub sound-back : (s : Sign) → Shaped s → soundOf s ≡ true → recordOf (imageOf s) ≡ s
 sound-back s h sound = record-back s h (sound-small s h sound)
 
--- every image of 102 bytes is some record, with arrays of their lengths
-pub image-shaped : (b : List ℕ) → length b ≡ 102 → Shaped (recordOf b)
+-- every image of 106 bytes is some record, with arrays of their lengths
+pub image-shaped : (b : List ℕ) → length b ≡ 106 → Shaped (recordOf b)
 unfolding recordOf
-image-shaped b e = record { lens = cut-length b 3 6 (omega arith); room = cut-length b 9 84 (omega arith) }
+image-shaped b e = record { ids = cut-length b 1 4 (omega arith); lens = cut-length b 7 6 (omega arith); room = cut-length b 13 84 (omega arith) }
 
 -- so many elements from a place on, one by one
 abbrev listed : List ℕ → (n at : ℕ) → List ℕ
@@ -161,29 +197,30 @@ cut : (b : List ℕ) (at n : ℕ) → take n (drop at b) ++ drop (at + n) b ≡ 
 cut b at n = ap (λ (l : List ℕ). take n (drop at b) ++ l) (sym (drop-drop n at b)) ∙ take-append-drop n (drop at b)
 
 -- and every image is the image of its record, byte for byte
-pub image-again : (b : List ℕ) → length b ≡ 102 → Bytes b → imageOf (recordOf b) ≡ b
+pub image-again : (b : List ℕ) → length b ≡ 106 → Bytes b → imageOf (recordOf b) ≡ b
 unfolding recordOf imageOf
 image-again b e h =
-    let n : getD b 93 0 % 256 ≡ getD b 93 0 = omega (arith, byte-at b 93 h) in
-    let q : getD b 94 0 % 256 ≡ getD b 94 0 = omega (arith, byte-at b 94 h) in
-    let k : getD b 95 0 % 256 ≡ getD b 95 0 = omega (arith, byte-at b 95 h) in
-    let end : drop 93 b ≡ listed b 9 93 = to-the-end b 9 93 (sym e) in
+    let n : getD b 97 0 % 256 ≡ getD b 97 0 = omega (arith, byte-at b 97 h) in
+    let q : getD b 98 0 % 256 ≡ getD b 98 0 = omega (arith, byte-at b 98 h) in
+    let k : getD b 99 0 % 256 ≡ getD b 99 0 = omega (arith, byte-at b 99 h) in
+    let end : drop 97 b ≡ listed b 9 97 = to-the-end b 9 97 (sym e) in
     let first : 0 < length b = omega arith in
-    let second : 1 < length b = omega arith in
-    let third : 2 < length b = omega arith in
-    let front : b ≡ getD b 0 0 ∷ getD b 1 0 ∷ getD b 2 0 ∷ drop 3 b =
-    drop-cons b 0 0 first
-    ∙ ap (λ (l : List ℕ). getD b 0 0 ∷ l) (drop-cons b 1 0 second ∙ ap (λ (l : List ℕ). getD b 1 0 ∷ l) (drop-cons b 2 0 third)) in
-    let parts : take 6 (drop 3 b) ++ (take 84 (drop 9 b) ++ drop 93 b) ≡ drop 3 b =
-    ap (λ (l : List ℕ). take 6 (drop 3 b) ++ l) (cut b 9 84) ∙ cut b 3 6 in
+    let sixth : 5 < length b = omega arith in
+    let seventh : 6 < length b = omega arith in
+    let two : drop 5 b ≡ getD b 5 0 ∷ getD b 6 0 ∷ drop 7 b =
+    drop-cons b 5 0 sixth ∙ ap (λ (l : List ℕ). getD b 5 0 ∷ l) (drop-cons b 6 0 seventh) in
+    let parts : take 6 (drop 7 b) ++ (take 84 (drop 13 b) ++ drop 97 b) ≡ drop 7 b =
+    ap (λ (l : List ℕ). take 6 (drop 7 b) ++ l) (cut b 13 84) ∙ cut b 7 6 in
     rw (n, q, k)
-    (ap (λ (l : List ℕ). getD b 0 0 ∷ getD b 1 0 ∷ getD b 2 0 ∷ (take 6 (drop 3 b) ++ (take 84 (drop 9 b) ++ l))) (sym end)
-    ∙ ap (λ (l : List ℕ). getD b 0 0 ∷ getD b 1 0 ∷ getD b 2 0 ∷ l) parts
-    ∙ sym front)
+    (ap (λ (l : List ℕ). getD b 0 0 ∷ (take 4 (drop 1 b) ++ getD b 5 0 ∷ getD b 6 0 ∷ (take 6 (drop 7 b) ++ (take 84 (drop 13 b) ++ l)))) (sym end)
+    ∙ ap (λ (l : List ℕ). getD b 0 0 ∷ (take 4 (drop 1 b) ++ getD b 5 0 ∷ getD b 6 0 ∷ l)) parts
+    ∙ ap (λ (l : List ℕ). getD b 0 0 ∷ (take 4 (drop 1 b) ++ l)) (sym two)
+    ∙ ap (λ (l : List ℕ). getD b 0 0 ∷ l) (cut b 1 4)
+    ∙ sym (drop-cons b 0 0 first))
 
 -- so sound records and accepted images are one to one: of equal images the records are equal, and of equal records the images
 pub same-image : (s t : Sign) → Shaped s → Shaped t → soundOf s ≡ true → soundOf t ≡ true → imageOf s ≡ imageOf t → s ≡ t
 same-image s t hs ht es et e = sym (sound-back s hs es) ∙ ap recordOf e ∙ sound-back t ht et
 
-pub same-record : (b c : List ℕ) → length b ≡ 102 → length c ≡ 102 → Bytes b → Bytes c → recordOf b ≡ recordOf c → b ≡ c
+pub same-record : (b c : List ℕ) → length b ≡ 106 → length c ≡ 106 → Bytes b → Bytes c → recordOf b ≡ recordOf c → b ≡ c
 same-record b c lb lc hb hc e = sym (image-again b lb hb) ∙ ap imageOf e ∙ image-again c lc hc

@@ -9,32 +9,37 @@ ghost use mathlib.Core.Path.{_≡_};
 ghost use Rattle.image.specs.Layout.{imageOf, recordOf};
 
 // The record that an image is.
-pub fn record_of(image: [u8; 102]) -> Sign
+pub fn record_of(image: [u8; 106]) -> Sign
     ensures { λ r. ⌜ r ≡ recordOf image ⌝ }
 {
+    let mut ids = [0; 4];
     let mut lens = [0; 6];
     let mut room = [0; 84];
-    bytes::copy(&image[3..9], &mut lens);
-    bytes::copy(&image[9..93], &mut room);
-    let len = image[93] as usize;
-    let place = image[94] as usize;
-    let behind = image[95] as usize;
-    let completed = Completed { last: image[0] };
+    bytes::copy(&image[1..5], &mut ids);
+    bytes::copy(&image[7..13], &mut lens);
+    bytes::copy(&image[13..97], &mut room);
+    let len = image[97] as usize;
+    let place = image[98] as usize;
+    let behind = image[99] as usize;
+    let completed = Completed {
+        count: image[0],
+        ids,
+    };
     let slots = Slots {
-        id: image[1],
-        total: image[2],
+        id: image[5],
+        total: image[6],
         lens,
     };
     let inner = Loop {
         place: behind,
-        left: image[96],
+        left: image[100],
     };
     let settings = Settings {
-        pace: image[97],
-        scans: image[98],
-        sink: image[99],
-        dim: image[100],
-        bright: image[101],
+        pace: image[101],
+        scans: image[102],
+        sink: image[103],
+        dim: image[104],
+        bright: image[105],
     };
     let run = Run {
         len,
@@ -51,29 +56,31 @@ pub fn record_of(image: [u8; 102]) -> Sign
 }
 
 // The image of a record.
-pub fn image_of(sign: Sign) -> [u8; 102]
+pub fn image_of(sign: Sign) -> [u8; 106]
     ensures { λ r. ⌜ r ≡ imageOf sign ⌝ }
 {
     let completed = sign.completed;
+    let ids = completed.ids;
     let slots = sign.slots;
     let lens = slots.lens;
     let room = sign.room;
     let run = sign.run;
     let settings = run.settings;
-    let mut image = [0; 102];
-    image[0] = completed.last;
-    image[1] = slots.id;
-    image[2] = slots.total;
-    image[93] = (run.len % 256) as u8;
-    image[94] = (run.place % 256) as u8;
-    image[95] = (run.inner.place % 256) as u8;
-    image[96] = run.inner.left;
-    image[97] = settings.pace;
-    image[98] = settings.scans;
-    image[99] = settings.sink;
-    image[100] = settings.dim;
-    image[101] = settings.bright;
-    bytes::copy(&room, &mut image[9..93]);
-    bytes::copy(&lens, &mut image[3..9]);
+    let mut image = [0; 106];
+    image[0] = completed.count;
+    image[5] = slots.id;
+    image[6] = slots.total;
+    image[97] = (run.len % 256) as u8;
+    image[98] = (run.place % 256) as u8;
+    image[99] = (run.inner.place % 256) as u8;
+    image[100] = run.inner.left;
+    image[101] = settings.pace;
+    image[102] = settings.scans;
+    image[103] = settings.sink;
+    image[104] = settings.dim;
+    image[105] = settings.bright;
+    bytes::copy(&room, &mut image[13..97]);
+    bytes::copy(&lens, &mut image[7..13]);
+    bytes::copy(&ids, &mut image[1..5]);
     image
 }

@@ -26,7 +26,7 @@ use Rattle.sign.specs.Sound.{soundOf}
 use Rattle.sign.specs.Tell.{saysOf, saysRows}
 use Rattle.sign.specs.declared.Sign.{Sign}
 use Rattle.sign.specs.declared.Received.{Received}
-use Rattle.image.specs.Layout.{imageOf, recordOf}
+use Rattle.image.specs.Layout.{imageSize, imageOf, recordOf}
 use Rattle.words.specs.Words.{wordsOf, wroteOf}
 use Rattle.words.specs.Told.{answerRow, firstOr, toldIn}
 use Rattle.words.specs.Says.{receivedBytes}
@@ -52,7 +52,7 @@ module _ (image : List ℕ) (mid : ℕ) (bytes answer : List ℕ) (e : Allowed m
 
   no-as-before : receiveNo image mid bytes answer ≡ receiveNoBefore image answer x
   no-as-before =
-      ap (λ (n : ℕ). when (not (eqb (length image) 102)) 251 (when (not (soundOf (recordOf image))) 16 n))
+      ap (λ (n : ℕ). when (not (eqb (length image) imageSize)) 251 (when (not (soundOf (recordOf image))) 16 n))
       (passes mid (answerRow 100 answer ∷ []) (outcomeTold (y .outcome) .number) e)
       ∙ ap (receiveNoBefore image answer) (receives-as-before (recordOf image) mid bytes e)
 
@@ -93,5 +93,5 @@ agrees-for-c =
           let bytes = saysOf (recordOf image) mid sink in
           let own = shortBy bytes out ∷ [] in
           by-rows (imageRow image ∷ saysRows (recordOf image) mid sink out) (guarded image own) bytes out r after
-          (ap (λ (n : ℕ). when (not (eqb (length image) 102)) 251 (when (not (soundOf (recordOf image))) 16 n)) (mid-passes mid own e));
+          (ap (λ (n : ℕ). when (not (eqb (length image) imageSize)) 251 (when (not (soundOf (recordOf image))) 16 n)) (mid-passes mid own e));
     }

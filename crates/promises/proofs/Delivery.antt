@@ -19,7 +19,8 @@ use Rattle.packet.proofs.Stands.{at-length, packet-stands, count-stands}
 use Rattle.hear.specs.Hear.{toldOf as outcomeTold}
 use Rattle.completed.specs.Completed.{hasOf, addedOf}
 use Rattle.completed.specs.declared.Completed.{Completed}
-use Rattle.completed.proofs.Laws.{has-added}
+use Rattle.completed.proofs.Laws.{has-added, sound-parts as completed-parts}
+use Rattle.sign.proofs.Sounds.{sound-parts}
 use Rattle.hear.specs.declared.Outcome.the-variants.{Repeat}
 use Rattle.sign.specs.Join.{staysOf}
 use Rattle.sign.specs.Receive.{receiveOf}
@@ -172,7 +173,7 @@ module _ (s : Sign) (good : Good s) (mid id : ℕ) (body out : List ℕ) (w : Wr
   behind-completed = ap (λ (t : Sign). t .completed) all-behind ∙ d .completed final last-is
 
   pub behind-has : hasOf (behind ours s mid found (totalOf body) .completed) id ≡ true
-  behind-has = ap (λ (d : Completed). hasOf d id) behind-completed ∙ has-added (s .completed) id
+  behind-has = ap (λ (d : Completed). hasOf d id) behind-completed ∙ has-added (s .completed) id (completed-parts (s .completed) (sound-parts s (good .sound) .completed) .most)
 
   pub gets : Gets ours s mid id body found
   unfolding staysOf

@@ -25,7 +25,7 @@ use Rattle.sign.specs.Join.{staysOf}
 use Rattle.sign.specs.Sound.{soundOf}
 use Rattle.sign.specs.Tell.{saysOf, saysRows}
 use Rattle.sign.proofs.Joining.{forbidden-receives}
-use Rattle.image.specs.Layout.{recordOf}
+use Rattle.image.specs.Layout.{imageSize, recordOf}
 use Rattle.words.specs.Words.{wordsOf, wroteOf}
 use Rattle.words.specs.Told.{answerRow, firstOr, toldIn}
 use Rattle.cabi.specs.Calls.{Tells, imageRow, guarded, keptOf, receiveNo}
@@ -79,22 +79,22 @@ silent size answer = go (ltb (length answer) size)
 -- a call on a sign, in an image of the right size, of another size, and with an unsound record
 module _ (image : List ℕ) (rows : List Row) (n : ℕ) where
   abbrev size : Bool
-  size = not (eqb (length image) 102)
+  size = not (eqb (length image) imageSize)
 
-  unsized : (length image ≡ 102 → ⊥) → firstOr (guarded image rows) n ≡ 251
-  unsized h = when-true size 251 (when (not (soundOf (recordOf image))) 16 (firstOr rows n)) (ap not (ne-eqb (length image) 102 h))
+  unsized : (length image ≡ imageSize → ⊥) → firstOr (guarded image rows) n ≡ 251
+  unsized h = when-true size 251 (when (not (soundOf (recordOf image))) 16 (firstOr rows n)) (ap not (ne-eqb (length image) imageSize h))
 
-  sized : length image ≡ 102 → firstOr (guarded image rows) n ≡ when (not (soundOf (recordOf image))) 16 (firstOr rows n)
-  sized h = when-false size 251 (when (not (soundOf (recordOf image))) 16 (firstOr rows n)) (ap not (eq-eqb (length image) 102 h))
+  sized : length image ≡ imageSize → firstOr (guarded image rows) n ≡ when (not (soundOf (recordOf image))) 16 (firstOr rows n)
+  sized h = when-false size 251 (when (not (soundOf (recordOf image))) 16 (firstOr rows n)) (ap not (eq-eqb (length image) imageSize h))
 
 -- what a receive of a forbidden MID is told, whatever the image is
 module _ (image : List ℕ) (mid : ℕ) (bytes answer : List ℕ) (e : isForbidden mid ≡ true) where
   never : receiveNo image mid bytes answer ≡ 0 → ⊥
-  never z = go (eqb (length image) 102) (soundOf (recordOf image)) (sym low ∙ z)
+  never z = go (eqb (length image) imageSize) (soundOf (recordOf image)) (sym low ∙ z)
     where
-      low : receiveNo image mid bytes answer ≡ when (not (eqb (length image) 102)) 251 (when (not (soundOf (recordOf image))) 16 19)
+      low : receiveNo image mid bytes answer ≡ when (not (eqb (length image) imageSize)) 251 (when (not (soundOf (recordOf image))) 16 19)
       low =
-          ap (λ (k : ℕ). when (not (eqb (length image) 102)) 251 (when (not (soundOf (recordOf image))) 16 k)) (stops-or mid (answerRow 100 answer ∷ []) _ e)
+          ap (λ (k : ℕ). when (not (eqb (length image) imageSize)) 251 (when (not (soundOf (recordOf image))) 16 k)) (stops-or mid (answerRow 100 answer ∷ []) _ e)
 
       go : (t u : Bool) → _≡_ {A = ℕ} (when (not t) 251 (when (not u) 16 19)) 0 → ⊥
       go true true w = omega arith
@@ -129,7 +129,7 @@ guards-for-c =
       replies = λ image mid sink out r after h sound e.
           let own = shortBy (saysOf (recordOf image) mid sink) out ∷ [] in
           by-19 (imageRow image ∷ saysRows (recordOf image) mid sink out) (saysOf (recordOf image) mid sink) out r after
-          (when-false (not (eqb (length image) 102)) 251 _ (ap not (eq-eqb (length image) 102 h))
+          (when-false (not (eqb (length image) imageSize)) 251 _ (ap not (eq-eqb (length image) imageSize h))
           ∙ when-false (not (soundOf (recordOf image))) 16 _ (ap not sound)
           ∙ mid-stops mid own e);
     }

@@ -5,6 +5,7 @@ pub mod Delivery
 pub mod Dispatch
 pub mod Guard
 pub mod Lent
+pub mod Late
 pub mod Line
 pub mod Ours
 pub mod Outcome

@@ -4,6 +4,7 @@ use Rattle.promises.specs.Keeps.{Keeps}
 use Rattle.promises.proofs.Delivery.{ours-delivers}
 use Rattle.promises.proofs.Dispatch.{ours-dispatches}
 use Rattle.promises.proofs.Guard.{ours-guards}
+use Rattle.promises.proofs.Late.{ours-remembers}
 use Rattle.promises.proofs.Line.{ours-runs}
 use Rattle.promises.proofs.Record.{ours-obeys}
 use Rattle.promises.proofs.Safe.{ours-never-trips}
@@ -18,5 +19,6 @@ ours-keeps =
       wire = ours-holds;
       obeys = ours-obeys;
       delivers = ours-delivers;
+      late = ours-remembers;
       line = ours-runs;
     }

@@ -18,11 +18,11 @@ use Rattle.sign.proofs.Sounds.{sound-parts}
 use Rattle.sign.proofs.Stepping.{sound-steps, unsound-steps, same-run}
 use Rattle.service.specs.Driver.{movesOf}
 use Rattle.service.proofs.Driver.{receive-still}
-use Rattle.image.specs.Layout.{imageOf, recordOf}
+use Rattle.image.specs.Layout.{imageSize, imageOf, recordOf}
 use Rattle.image.proofs.Backs.{image-again}
 use Rattle.cabi.specs.Calls.{keptOf, receiveNo, receiveImage, stepNo, stepImage}
 
-module _ (image : List ℕ) (size : length image ≡ 102) (bytes : Bytes image) where
+module _ (image : List ℕ) (size : length image ≡ imageSize) (bytes : Bytes image) where
   -- a record that stays leaves its image, whatever number the call gives
   same : (n : ℕ) (s : Sign) → s ≡ recordOf image → keptOf n image (imageOf s) ≡ image
   same n s e = go (eqb n 0)

@@ -43,7 +43,7 @@ use Rattle.service.specs.Good.{Roomy}
 use Rattle.promises.specs.Bench.{hi, query7F, w5}
 use Rattle.promises.specs.Unit.{Wrote, ours, valueAt}
 use Rattle.promises.specs.Keeps.{Keeps}
-use Rattle.promises.specs.Wrong.{refusing, eager, noisy, misled, misset, wary, hurried, sorry, rumour, hearsay, idle, scribbling, trusting, madeUp, inventing, lenient, atOnce, fixed, startingOver, shaken, forgetful, agreeable, deaf, orderly, surly, jumpy, frozen, sulking, drowsy, rosy, mute, parrot, dated, trailing, encore, counting}
+use Rattle.promises.specs.Wrong.{refusing, eager, noisy, misled, misset, wary, hurried, sorry, rumour, hearsay, idle, scribbling, trusting, madeUp, inventing, lenient, atOnce, fixed, startingOver, shaken, forgetful, agreeable, deaf, orderly, surly, jumpy, frozen, sulking, drowsy, rosy, mute, parrot, dated, trailing, encore, counting, knowing, brief, distracted, flustered}
 use Rattle.promises.specs.Guard.{unguarded}
 use Rattle.promises.proofs.Pins.{no-other-unit}
 
@@ -58,11 +58,11 @@ shows b = signOf (addedOf noCompleted 5) (bodyIn b) (startedOf (length b) (start
 -- its rooms have their sizes
 roomy-on : Roomy powerOn
 unfolding noCompleted lastOf hasOf addedOf completedSound freshOf readyOf begunOf
-roomy-on = record { lens = refl; room = refl }
+roomy-on = record { ids = refl; lens = refl; room = refl }
 
 roomy-w5 : Roomy (shows w5)
-unfolding shows startedOf roomOf laid
-roomy-w5 = record { lens = refl; room = refl }
+unfolding noCompleted addedOf shows startedOf roomOf laid
+roomy-w5 = record { ids = refl; lens = refl; room = refl }
 
 -- `^R`, and `^L2^W1^E`
 again : List ℕ
@@ -203,6 +203,32 @@ forgetful-fails k =
     let n : _≡_ {A = ℕ} 0x41 5 = ap (λ (s : Sign). lastOf (s .completed)) (no-other-unit forgetful k .receive powerOn roomy-on 0x80 (packetAt 0x80 5 w5 0) .next) in
     omega arith
 
+-- a sign that has completed 1, then 2, then 3
+after-three : Sign
+after-three = knowing (addedOf (addedOf (addedOf noCompleted 1) 2) 3) powerOn
+
+roomy-three : Roomy after-three
+unfolding after-three noCompleted addedOf freshOf readyOf begunOf
+roomy-three = record { ids = refl; lens = refl; room = refl }
+
+pub brief-fails : Keeps brief → ⊥
+unfolding after-three noCompleted lastOf hasOf addedOf completedSound freshOf readyOf startedOf clearedOf stepOf runStep settle answerOf receiveOf joinOf releaseOf staysOf soundOf runSound collectionSound judgeOf commandAt settingsSound roomOf slotsOf heldOf joinedOf sameOf begunOf storedOf standOf laid sum packetOf partOf packetsOf replyOf isForbidden lowestOf readOf heardFrom heardOf repeatOf
+brief-fails k =
+    let n : _≡_ {A = ℕ} 3 4 = ap (λ (s : Sign). s .completed .count) (no-other-unit brief k .receive after-three roomy-three 0x80 (packetAt 0x80 4 w5 0) .next) in
+    omega arith
+
+pub distracted-fails : Keeps distracted → ⊥
+unfolding after-three noCompleted lastOf hasOf addedOf completedSound freshOf readyOf startedOf clearedOf stepOf runStep settle answerOf receiveOf joinOf releaseOf staysOf soundOf runSound collectionSound judgeOf commandAt settingsSound roomOf slotsOf heldOf joinedOf sameOf begunOf storedOf standOf laid sum packetOf partOf packetsOf replyOf isForbidden lowestOf readOf heardFrom heardOf repeatOf
+distracted-fails k =
+    let n : _≡_ {A = ℕ} 0x41 3 = ap (λ (s : Sign). lastOf (s .completed)) (no-other-unit distracted k .receive after-three roomy-three 0x80 (queryOf 0x80) .next) in
+    omega arith
+
+pub flustered-fails : Keeps flustered → ⊥
+unfolding after-three noCompleted lastOf hasOf addedOf completedSound freshOf readyOf startedOf clearedOf stepOf runStep settle answerOf receiveOf joinOf releaseOf staysOf soundOf runSound collectionSound judgeOf commandAt settingsSound roomOf slotsOf heldOf joinedOf sameOf begunOf storedOf standOf laid sum packetOf partOf packetsOf replyOf isForbidden lowestOf readOf heardFrom heardOf repeatOf
+flustered-fails k =
+    let n : _≡_ {A = ℕ} 1 3 = ap (λ (s : Sign). lastOf (s .completed)) (no-other-unit flustered k .receive after-three roomy-three 0x80 (packetAt 0x80 1 w5 0) .next) in
+    omega arith
+
 -- a body of two packets, and one that differs in its first byte
 long : ℕ → List ℕ
 long x = x ∷ replicate 19 0x20
@@ -213,7 +239,7 @@ collecting = ours .receive powerOn 0x80 (packetAt 0x80 5 (long 0x5E) 0) .next
 
 roomy-collecting : Roomy collecting
 unfolding collecting long noCompleted lastOf hasOf addedOf completedSound freshOf readyOf startedOf clearedOf stepOf runStep settle answerOf receiveOf joinOf releaseOf staysOf soundOf runSound collectionSound judgeOf commandAt settingsSound roomOf slotsOf heldOf joinedOf sameOf begunOf storedOf standOf laid sum packetOf partOf packetsOf replyOf isForbidden lowestOf readOf heardFrom heardOf repeatOf
-roomy-collecting = record { lens = refl; room = refl }
+roomy-collecting = record { ids = refl; lens = refl; room = refl }
 
 pub agreeable-fails : Keeps agreeable → ⊥
 unfolding collecting long noCompleted lastOf hasOf addedOf completedSound freshOf readyOf startedOf clearedOf stepOf runStep settle answerOf receiveOf joinOf releaseOf staysOf soundOf runSound collectionSound judgeOf commandAt settingsSound roomOf slotsOf heldOf joinedOf sameOf begunOf storedOf standOf laid sum packetOf partOf packetsOf replyOf isForbidden lowestOf readOf heardFrom heardOf repeatOf
@@ -239,9 +265,9 @@ wary-fails k =
     let n : _≡_ {A = ℕ} 19 0 = ap (λ (t : Told). t .number) (no-other-unit wary k .receive powerOn roomy-on 0x7D (queryOf 0x7D) .told) in
     omega arith
 
--- a sign whose last ID is that of a query, which is not sound
+-- a sign that has completed the ID of a query, which is not sound
 queried : Sign
-queried = record { completed = record { last = 0x40 }; slots = powerOn .slots; room = powerOn .room; run = powerOn .run }
+queried = record { completed = addedOf noCompleted 0x40; slots = powerOn .slots; room = powerOn .room; run = powerOn .run }
 
 pub hurried-fails : Keeps hurried → ⊥
 unfolding queried noCompleted lastOf hasOf addedOf completedSound freshOf readyOf startedOf clearedOf stepOf runStep settle answerOf receiveOf joinOf releaseOf staysOf soundOf runSound collectionSound judgeOf commandAt settingsSound roomOf slotsOf heldOf joinedOf sameOf begunOf storedOf standOf laid sum packetOf partOf packetsOf replyOf isForbidden lowestOf readOf heardFrom heardOf repeatOf
@@ -274,8 +300,8 @@ frozen-fails k =
     omega arith
 
 roomy-again : Roomy (shows again)
-unfolding shows again startedOf roomOf laid
-roomy-again = record { lens = refl; room = refl }
+unfolding noCompleted addedOf shows again startedOf roomOf laid
+roomy-again = record { ids = refl; lens = refl; room = refl }
 
 pub sulking-fails : Keeps sulking → ⊥
 unfolding shows again noCompleted lastOf hasOf addedOf completedSound freshOf readyOf startedOf clearedOf stepOf runStep settle answerOf receiveOf joinOf releaseOf staysOf soundOf runSound collectionSound judgeOf commandAt settingsSound roomOf slotsOf heldOf joinedOf sameOf begunOf storedOf standOf laid sum packetOf partOf packetsOf replyOf isForbidden lowestOf readOf heardFrom heardOf repeatOf
@@ -291,12 +317,12 @@ switching : List ℕ
 switching = 0x5E ∷ 0x49 ∷ 0x49 ∷ 0x41 ∷ 0x7E ∷ 0x62 ∷ []
 
 roomy-compact : Roomy (shows compact)
-unfolding shows compact startedOf roomOf laid
-roomy-compact = record { lens = refl; room = refl }
+unfolding noCompleted addedOf shows compact startedOf roomOf laid
+roomy-compact = record { ids = refl; lens = refl; room = refl }
 
 roomy-switching : Roomy (shows switching)
-unfolding shows switching startedOf roomOf laid
-roomy-switching = record { lens = refl; room = refl }
+unfolding noCompleted addedOf shows switching startedOf roomOf laid
+roomy-switching = record { ids = refl; lens = refl; room = refl }
 
 pub dated-fails : Keeps dated → ⊥
 unfolding compact shows noCompleted lastOf hasOf addedOf completedSound freshOf readyOf startedOf clearedOf stepOf runStep settle answerOf receiveOf joinOf releaseOf staysOf soundOf runSound collectionSound judgeOf commandAt settingsSound roomOf slotsOf heldOf joinedOf sameOf begunOf storedOf standOf laid sum packetOf partOf packetsOf replyOf isForbidden lowestOf readOf heardFrom heardOf repeatOf
@@ -316,7 +342,7 @@ ended = ours .step (shows w5) .next
 
 roomy-ended : Roomy ended
 unfolding ended shows noCompleted lastOf hasOf addedOf completedSound freshOf readyOf startedOf clearedOf stepOf runStep settle answerOf receiveOf joinOf releaseOf staysOf soundOf runSound collectionSound judgeOf commandAt settingsSound roomOf slotsOf heldOf joinedOf sameOf begunOf storedOf standOf laid sum packetOf partOf packetsOf replyOf isForbidden lowestOf readOf heardFrom heardOf repeatOf
-roomy-ended = record { lens = refl; room = refl }
+roomy-ended = record { ids = refl; lens = refl; room = refl }
 
 pub drowsy-fails : Keeps drowsy → ⊥
 unfolding ended shows noCompleted lastOf hasOf addedOf completedSound freshOf readyOf startedOf clearedOf stepOf runStep settle answerOf receiveOf joinOf releaseOf staysOf soundOf runSound collectionSound judgeOf commandAt settingsSound roomOf slotsOf heldOf joinedOf sameOf begunOf storedOf standOf laid sum packetOf partOf packetsOf replyOf isForbidden lowestOf readOf heardFrom heardOf repeatOf
@@ -354,7 +380,7 @@ passed = ours .step (ours .step (ours .step (shows twice) .next) .next) .next
 
 roomy-passed : Roomy passed
 unfolding passed shows twice noCompleted lastOf hasOf addedOf completedSound freshOf readyOf startedOf clearedOf stepOf runStep settle answerOf receiveOf joinOf releaseOf staysOf soundOf runSound collectionSound judgeOf commandAt settingsSound roomOf slotsOf heldOf joinedOf sameOf begunOf storedOf standOf laid sum packetOf partOf packetsOf replyOf isForbidden lowestOf readOf heardFrom heardOf repeatOf
-roomy-passed = record { lens = refl; room = refl }
+roomy-passed = record { ids = refl; lens = refl; room = refl }
 
 pub counting-fails : Keeps counting → ⊥
 unfolding passed shows twice noCompleted lastOf hasOf addedOf completedSound freshOf readyOf startedOf clearedOf stepOf runStep settle answerOf receiveOf joinOf releaseOf staysOf soundOf runSound collectionSound judgeOf commandAt settingsSound roomOf slotsOf heldOf joinedOf sameOf begunOf storedOf standOf laid sum packetOf partOf packetsOf replyOf isForbidden lowestOf readOf heardFrom heardOf repeatOf

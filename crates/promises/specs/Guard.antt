@@ -15,7 +15,7 @@ use Rattle.reply.specs.Reply.{heardFrom, replyRows, toldOf as statusTold}
 use Rattle.sign.specs.Sound.{soundOf}
 use Rattle.sign.specs.Tell.{saysOf, toldRows, saysRows}
 use Rattle.sign.specs.declared.Sign.{Sign}
-use Rattle.image.specs.Layout.{recordOf}
+use Rattle.image.specs.Layout.{imageSize, recordOf}
 use Rattle.cabi.specs.Calls.{Tells, imageRow, readNo, readAnswer, replyNo, replyAnswer, receiveNo, receiveImage, receiveAnswer}
 use Rattle.promises.specs.Unit.{Wrote, Calls, ours, leftBy, heardIn}
 use Rattle.promises.specs.Record.{stays}
@@ -43,17 +43,17 @@ pub record GuardsForC : Type 0 where
   pub read-answer : (mid : ℕ) (bytes answer : List ℕ) → isForbidden mid ≡ true → readAnswer mid bytes answer ≡ answer
   pub reply-no : (mid : ℕ) (bytes answer : List ℕ) → isForbidden mid ≡ true → replyNo mid bytes answer ≡ 19
   pub reply-answer : (mid : ℕ) (bytes answer : List ℕ) → isForbidden mid ≡ true → replyAnswer mid bytes answer ≡ answer
-  pub receive-unsized : (image : List ℕ) (mid : ℕ) (bytes answer : List ℕ) → (length image ≡ 102 → ⊥) → receiveNo image mid bytes answer ≡ 251
-  pub receive-unsound : (image : List ℕ) (mid : ℕ) (bytes answer : List ℕ) → length image ≡ 102 → soundOf (recordOf image) ≡ false
+  pub receive-unsized : (image : List ℕ) (mid : ℕ) (bytes answer : List ℕ) → (length image ≡ imageSize → ⊥) → receiveNo image mid bytes answer ≡ 251
+  pub receive-unsound : (image : List ℕ) (mid : ℕ) (bytes answer : List ℕ) → length image ≡ imageSize → soundOf (recordOf image) ≡ false
       → receiveNo image mid bytes answer ≡ 16
-  pub receive-no : (image : List ℕ) (mid : ℕ) (bytes answer : List ℕ) → length image ≡ 102 → soundOf (recordOf image) ≡ true → isForbidden mid ≡ true
+  pub receive-no : (image : List ℕ) (mid : ℕ) (bytes answer : List ℕ) → length image ≡ imageSize → soundOf (recordOf image) ≡ true → isForbidden mid ≡ true
       → receiveNo image mid bytes answer ≡ 19
   pub receive-image : (image : List ℕ) (mid : ℕ) (bytes answer : List ℕ) → isForbidden mid ≡ true → receiveImage image mid bytes answer ≡ image
   pub receive-answer : (image : List ℕ) (mid : ℕ) (bytes answer : List ℕ) → isForbidden mid ≡ true → receiveAnswer image mid bytes answer ≡ answer
   pub writes : (mid : ℕ) (rows : List Row) (bytes out : List ℕ) (r : ℕ) (after : List ℕ) → isForbidden mid ≡ true
       → Tells (midRow mid ∷ rows) bytes out r after
       → (r ≡ 19) × (after ≡ out)
-  pub replies : (image : List ℕ) (mid : ℕ) (sink : Bool) (out : List ℕ) (r : ℕ) (after : List ℕ) → length image ≡ 102
+  pub replies : (image : List ℕ) (mid : ℕ) (sink : Bool) (out : List ℕ) (r : ℕ) (after : List ℕ) → length image ≡ imageSize
       → soundOf (recordOf image) ≡ true
       → isForbidden mid ≡ true
       → Tells (imageRow image ∷ saysRows (recordOf image) mid sink out) (saysOf (recordOf image) mid sink) out r after

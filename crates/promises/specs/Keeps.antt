@@ -11,6 +11,7 @@ use Rattle.promises.specs.Guard.{Guards}
 use Rattle.promises.specs.Wire.{WireHolds}
 use Rattle.promises.specs.Record.{Obeys}
 use Rattle.promises.specs.Delivery.{Delivers}
+use Rattle.promises.specs.Late.{LateCopies}
 use Rattle.promises.specs.Line.{LineRuns}
 use Rattle.promises.specs.Dispatch.{DispatchToReady}
 use Rattle.sign.specs.declared.Sign.{Sign}
@@ -22,6 +23,7 @@ pub record Keeps {R : Type 0} (u : Calls R) : Type 0 where
   pub wire : WireHolds u
   pub obeys : Obeys u
   pub delivers : Delivers u
+  pub late : LateCopies u
   pub line : LineRuns u
 
 -- the same answer, and a next record that holds the same

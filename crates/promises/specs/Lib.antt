@@ -4,6 +4,7 @@ pub mod Delivery
 pub mod Dispatch
 pub mod Guard
 pub mod Keeps
+pub mod Late
 pub mod Line
 pub mod Record
 pub mod Safe

@@ -26,6 +26,7 @@ use Rattle.course.specs.Steps.{saysOf, setsOf, saidAt}
 use Rattle.course.specs.Tree.{Block, stop, one, loop, treeOf, treeIn}
 use Rattle.course.specs.Price.{scans, millis, leavesOf, priceOf}
 use Rattle.completed.specs.Completed.{noneOf as noCompleted, lastOf, hasOf}
+use Rattle.completed.specs.declared.Completed.{Completed}
 use Rattle.collect.specs.Slots.{heldOf, sameOf}
 use Rattle.room.specs.Room.{roomOf}
 use Rattle.totals.specs.Totals.{totalsOf}
@@ -251,6 +252,45 @@ forgets s h =
 
 abbrev pub forgetful : Calls Sign
 forgetful = receiving (λ s mid b. forgets s (ours .receive s mid b))
+
+-- a record with other completed numbers, and an answer with such a record
+abbrev pub knowing : Completed → Sign → Sign
+knowing d s = record { completed = d; slots = s .slots; room = s .room; run = s .run }
+
+abbrev pub recalling : (Completed → Completed) → Heard Sign → Heard Sign
+recalling f h = record { told = h .told; next = knowing (f (h .next .completed)) (h .next); body = h .body }
+
+-- a sign that remembers three completed numbers
+abbrev pub threeOf : Completed → Completed
+threeOf d = when (ltb 3 (d .count)) (record { count = 3; ids = take 3 (d .ids) ++ (0 ∷ []) }) d
+
+abbrev pub brief : Calls Sign
+brief = receiving (λ s mid b. recalling threeOf (ours .receive s mid b))
+
+-- a sign that forgets the completed numbers on a query
+abbrev pub onQuery : Reading → Heard Sign → Heard Sign
+onQuery Query h = recalling (λ d. noCompleted) h
+onQuery Reset h = h
+onQuery (Normal id total position len) h = h
+onQuery (Refused n) h = h
+
+abbrev pub distracted : Calls Sign
+distracted = receiving (λ s mid b. onQuery (readOf mid b) (ours .receive s mid b))
+
+-- a sign that takes a late copy for the newest number: it moves to the front
+abbrev pub others : ℕ → List ℕ → List ℕ
+others id [] = []
+others id (x ∷ xs) = when (eqb id x) xs (x ∷ others id xs)
+
+abbrev pub fronted : Sign → Reading → Heard Sign → Heard Sign
+fronted s (Normal id total position len) h =
+    when (hasOf (s .completed) id) (recalling (λ d. record { count = d .count; ids = id ∷ others id (d .ids) }) h) h
+fronted s Query h = h
+fronted s Reset h = h
+fronted s (Refused n) h = h
+
+abbrev pub flustered : Calls Sign
+flustered = receiving (λ s mid b. fronted s (readOf mid b) (ours .receive s mid b))
 
 -- a sign that takes other data for a packet that it holds as a Repeat
 abbrev pub agrees : Heard Sign → Heard Sign

@@ -1,1 +1,2 @@
 mod Blanks
+pub mod Unused

@@ -23,10 +23,10 @@ use Rattle.machine.specs.declared.Answer.the-variants.{Refused as Stopped}
 use Rattle.sign.specs.Sound.{collectedOf, soundOf}
 use Rattle.sign.specs.Reset.{resetOf, clearedOf}
 use Rattle.hear.specs.Join.{slotOf}
-use Rattle.sign.specs.Join.{staysOf, storesOf, releaseOf, releasedOf, placedOf, goesOn, joinOf}
+use Rattle.sign.specs.Join.{staysOf, storesOf, releaseOf, releasedOf, countedOf, placedOf, goesOn, joinOf}
 use Rattle.sign.specs.Receive.{heardOf, receiveOf}
 use Rattle.sign.specs.Step.{stepOf}
-use Rattle.service.specs.Driver.{movesOf, Event, step, bytes, afterEvents, saidEvents, afterSteps, saidSteps, stepsIn, Undisturbed}
+use Rattle.service.specs.Driver.{movesOf, completesOf, Event, step, bytes, afterEvents, saidEvents, afterSteps, saidSteps, stepsIn, Undisturbed}
 use Rattle.sign.specs.declared.Sign.{Sign}
 use Rattle.sign.specs.declared.Received.{Received}
 use Rattle.sign.specs.declared.Cleared.{Cleared}
@@ -39,61 +39,77 @@ use Rattle.sign.proofs.Joining.{sound-receives, unsound-receives}
 use Rattle.sign.proofs.Sounds.{sound-parts}
 use Rattle.sign.proofs.Stepping.{sound-steps, unsound-steps}
 
--- where the outcome doesn't move, the record is the one before and no body comes with it
-abbrev Still : Sign → Received → Type 0
-Still s r = movesOf (r .outcome) ≡ false → r ≡ staysOf s (r .outcome)
+-- what holds of a record that stays, of one with a packet in its collection, and of a reset, holds of whatever bytes come
+module _ (s : Sign) (P : Received → Type 0) (stays : (o : Outcome) → P (staysOf s o)) (counted : (c : Collection) → P (countedOf s c)) where
+  join-any : (id total position : ℕ) (part : List ℕ) → P (joinOf s id total position part)
+  unfolding joinOf
+  join-any id total position part =
+      go (hasOf (s .completed) id) (eqb (s .run .len) 0) (eqb (s .slots .total) 0 or not (eqb (s .slots .id) id)) (eqb (s .slots .total) total)
+      (eqb (getD (s .slots .lens) position 0) 0)
+      (sameOf (slotOf (collectedOf s) position) part)
+    where
+      go : (t u v w x y : Bool)
+          → P
+          (when t (staysOf s Repeat)
+          (when (not u) (staysOf s (Refused 12))
+          (when v (placedOf s (begunOf id total) position part)
+          (when (not w) (staysOf s (Refused 13)) (when x (placedOf s (collectedOf s) position part) (when y (staysOf s Repeat) (staysOf s (Refused 13))))))))
+      go true u v w x y = stays Repeat
+      go false false v w x y = stays (Refused 12)
+      go false true true w x y = counted (storedOf (begunOf id total) position part)
+      go false true false false x y = stays (Refused 13)
+      go false true false true true y = counted (storedOf (collectedOf s) position part)
+      go false true false true false true = stays Repeat
+      go false true false true false false = stays (Refused 13)
+
+  pub receive-any : P (staysOf (resetOf s) Reset) → (mid : ℕ) (b : List ℕ) → P (receiveOf s mid b)
+  receive-any reset mid b = go (soundOf s) refl
+    where
+      heard : (r : Reading) → P (heardOf s b r)
+      heard QueryRead = stays Query
+      heard ResetRead = reset
+      heard (Normal id total position len) = join-any id total position (take len (drop 5 b))
+      heard (Unread n) = stays (Refused n)
+
+      go : (t : Bool) → soundOf s ≡ t → P (receiveOf s mid b)
+      go true e = subst P (sym (sound-receives s mid b e)) (heard (readOf mid b))
+      go false e = subst P (sym (unsound-receives s mid b e)) (stays (Refused 16))
 
 moved : {A : Type 0} → true ≡ false → A
 moved e = let z : _≡_ {A = ℕ} 0 1 = cc in absurd (omega arith)
 
-stays-still : (s : Sign) (o : Outcome) → Still s (staysOf s o)
-unfolding staysOf
-stays-still s o e = refl
-
-counted-still : (s : Sign) (c : Collection) (t : Bool) → Still s (when t (releasedOf s c) (storesOf s c))
-unfolding staysOf releaseOf
-counted-still s c true e = moved e
-counted-still s c false e = moved e
-
-join-still : (s : Sign) (id total position : ℕ) (part : List ℕ) → Still s (joinOf s id total position part)
-unfolding joinOf
-join-still s id total position part =
-    go (hasOf (s .completed) id) (eqb (s .run .len) 0) (eqb (s .slots .total) 0 or not (eqb (s .slots .id) id)) (eqb (s .slots .total) total)
-    (eqb (getD (s .slots .lens) position 0) 0)
-    (sameOf (slotOf (collectedOf s) position) part)
-  where
-    placed-still : (c : Collection) → Still s (placedOf s c position part)
-    placed-still c = counted-still s (storedOf c position part) (leb (storedOf c position part .total) (heldOf (storedOf c position part .lens)))
-
-    go : (t u v w x y : Bool)
-        → Still s
-        (when t (staysOf s Repeat)
-        (when (not u) (staysOf s (Refused 12))
-        (when v (placedOf s (begunOf id total) position part)
-        (when (not w) (staysOf s (Refused 13)) (when x (placedOf s (collectedOf s) position part) (when y (staysOf s Repeat) (staysOf s (Refused 13))))))))
-    go true u v w x y = stays-still s Repeat
-    go false false v w x y = stays-still s (Refused 12)
-    go false true true w x y = placed-still (begunOf id total)
-    go false true false false x y = stays-still s (Refused 13)
-    go false true false true true y = placed-still (collectedOf s)
-    go false true false true false true = stays-still s Repeat
-    go false true false true false false = stays-still s (Refused 13)
-
-heard-still : (s : Sign) (b : List ℕ) (r : Reading) → Still s (heardOf s b r)
-unfolding staysOf
-heard-still s b QueryRead = stays-still s Query
-heard-still s b ResetRead = λ e. moved e
-heard-still s b (Normal id total position len) = join-still s id total position (take len (drop 5 b))
-heard-still s b (Unread n) = stays-still s (Refused n)
-
--- a query, a repeat and a refusal leave the record, sound or not
+-- a query, a repeat and a refusal leave the record, sound or not, and no body comes with them
 pub receive-stays : (s : Sign) (mid : ℕ) (b : List ℕ) → movesOf (receiveOf s mid b .outcome) ≡ false
     → receiveOf s mid b ≡ staysOf s (receiveOf s mid b .outcome)
-receive-stays s mid b = go (soundOf s) refl
+unfolding staysOf releaseOf
+receive-stays s mid b =
+    receive-any s (λ r. movesOf (r .outcome) ≡ false → r ≡ staysOf s (r .outcome)) (λ o e. refl)
+    (λ c. counted c (leb (c .total) (heldOf (c .lens))))
+    (λ e. moved e)
+    mid
+    b
   where
-    go : (t : Bool) → soundOf s ≡ t → Still s (receiveOf s mid b)
-    go true e = subst (λ (r : Received). Still s r) (sym (sound-receives s mid b e)) (heard-still s b (readOf mid b))
-    go false e = subst (λ (r : Received). Still s r) (sym (unsound-receives s mid b e)) (stays-still s (Refused 16))
+    counted : (c : Collection) (t : Bool)
+        → movesOf (when t (releasedOf s c) (storesOf s c) .outcome) ≡ false
+        → when t (releasedOf s c) (storesOf s c) ≡ staysOf s (when t (releasedOf s c) (storesOf s c) .outcome)
+    counted c true e = moved e
+    counted c false e = moved e
+
+-- whatever comes, but for a reset and a release, leaves the completed IDs
+pub receive-completed : (s : Sign) (mid : ℕ) (b : List ℕ) → completesOf (receiveOf s mid b .outcome) ≡ false
+    → receiveOf s mid b .sign .completed ≡ s .completed
+unfolding staysOf releaseOf
+receive-completed s mid b =
+    receive-any s (λ r. completesOf (r .outcome) ≡ false → r .sign .completed ≡ s .completed) (λ o e. refl)
+    (λ c. counted c (leb (c .total) (heldOf (c .lens))))
+    (λ e. moved e)
+    mid
+    b
+  where
+    counted : (c : Collection) (t : Bool) → completesOf (when t (releasedOf s c) (storesOf s c) .outcome) ≡ false
+        → when t (releasedOf s c) (storesOf s c) .sign .completed ≡ s .completed
+    counted c true e = moved e
+    counted c false e = refl
 
 pub receive-still : (s : Sign) (mid : ℕ) (b : List ℕ) → movesOf (receiveOf s mid b .outcome) ≡ false → receiveOf s mid b .sign ≡ s
 unfolding staysOf

@@ -23,11 +23,11 @@ use Rattle.judge.specs.declared.Verdict.the-variants.{Finite, Endless, Refused 
 use Rattle.room.specs.Room.{zerosOf}
 use Rattle.completed.specs.Completed.{noneOf as noCompleted, hasOf, addedOf, soundOf as completedSound}
 use Rattle.completed.specs.declared.Completed.{Completed}
-use Rattle.completed.proofs.Laws.{added-sound, none-sound as no-completed-sound}
+use Rattle.completed.proofs.Laws.{added-sound, added-room, none-sound as no-completed-sound, none-room as no-completed-room}
 use Rattle.collect.specs.Slots.{Collection, collectionOf, slotsIn, heldOf, joinedOf, begunOf, noneOf, sameOf, storedOf}
 use Rattle.collect.specs.Sound.{nothingOf, soundOf as collectionSound}
 use Rattle.collect.specs.declared.Slots.{Slots}
-use Rattle.collect.proofs.Joined.{all-zeros}
+use Rattle.room.proofs.Unused.{all-zeros}
 use Rattle.collect.proofs.Kept.{held-more}
 use Rattle.collect.proofs.Sounds.{sound-collecting, collecting-sound, none-sound}
 use Rattle.machine.specs.Sound.{soundOf as runSound}
@@ -63,7 +63,7 @@ fresh-good dim bright e =
     record {
       sound = parts-sound (freshOf dim bright)
           (record { completed = no-completed-sound; run = ready-sound (replicate 84 0) (startSettings dim bright) e; collects = none-sound noCompleted });
-      roomy = record { lens = refl; room = refl };
+      roomy = record { ids = no-completed-room; lens = refl; room = refl };
     }
 
 -- power-on is sound
@@ -99,9 +99,9 @@ nothing-none x size e =
     made id total lens = record { id = id; total = total; lens = lens }
 
 -- a record that collects nothing, with a run that is Ready
-none-good : (s : Sign) (d : Completed) → Good s → s .run .len ≡ 0 → completedSound d ≡ true → Good (signOf d noneOf (s .run))
+none-good : (s : Sign) (d : Completed) → Good s → s .run .len ≡ 0 → completedSound d ≡ true → length (d .ids) ≡ 4 → Good (signOf d noneOf (s .run))
 unfolding begunOf
-none-good s d g ready known =
+none-good s d g ready known room =
     let new = signOf d noneOf (s .run) in
     record {
       sound = parts-sound new
@@ -110,20 +110,21 @@ none-good s d g ready known =
             run = ready-anywhere (replicate 84 0) (s .room) (s .run) ready ∙ sound-parts s (g .sound) .run;
             collects = ready-collects new ready ∙ none-sound d;
           });
-      roomy = record { lens = refl; room = refl };
+      roomy = record { ids = room; lens = refl; room = refl };
     }
 
 -- an accepted body is in the room and starts a sound run
 started-good : (s : Sign) (d : Completed) (body : List ℕ) (endless : Bool) → judgeOf body ≡ acceptedAs endless → Good s → completedSound d ≡ true
+    → length (d .ids) ≡ 4
     → Good (signOf d (bodyIn body) (startedOf (length body) (s .run .settings)))
-started-good s d body endless e g known =
+started-good s d body endless e g known room =
     let σ = s .run .settings in
     let set = run-parts (s .room) (s .run) (sound-parts s (g .sound) .run) .set in
     let new = signOf d (bodyIn body) (startedOf (length body) σ) in
     record {
       sound = parts-sound new
           (record { completed = known; run = started-sound body endless e σ set; collects = busy-collects new (started-busy body endless e σ set) });
-      roomy = record { lens = refl; room = started-room body endless e σ set };
+      roomy = record { ids = room; lens = refl; room = started-room body endless e σ set };
     }
 
 -- a release completes an ID of a packet with data that isn't completed yet
@@ -137,11 +138,14 @@ release-good s id body g ready known other = go (judgeOf body) refl
     right : completedSound d ≡ true
     right = added-sound (s .completed) id (sound-parts s (g .sound) .completed) known other
 
+    room : length (d .ids) ≡ 4
+    room = added-room (s .completed) id (g .roomy .ids)
+
     go : (v : Verdict) → judgeOf body ≡ v
         → Good (startsOf v (signOf d (bodyIn body) (startedOf (length body) (s .run .settings))) (signOf d noneOf (s .run)))
-    go Finite e = started-good s d body false e g right
-    go Endless e = started-good s d body true e g right
-    go (NoProgram n p) e = none-good s d g ready right
+    go Finite e = started-good s d body false e g right room
+    go Endless e = started-good s d body true e g right room
+    go (NoProgram n p) e = none-good s d g ready right room
 
 -- a packet placed in a Ready record
 module _ (s : Sign) (g : Good s) (ready : s .run .len ≡ 0) (c : Collection) (position : ℕ) (part : List ℕ) (lens : length (c .lens) ≡ 6)
@@ -171,6 +175,7 @@ module _ (s : Sign) (g : Good s) (ready : s .run .len ≡ 0) (c : Collection) (p
                   (stored-slots c position part lens room o);
             });
         roomy = record {
+          ids = g .roomy .ids;
           lens = length-set (c .lens) position (length part) ∙ lens;
           room = length-laid (take (14 * position) (c .room) ++ part) (c .room) fits ∙ room;
         };
@@ -278,7 +283,7 @@ step-good s g = subst (λ (r : Stepped). Good (r .sign)) (sym (sound-steps s (g 
                     ∙ ap (λ (x : Slots). collectionSound (s .completed) (collectionOf x (replicate 84 0))) none
                     ∙ none-sound (s .completed);
               });
-          roomy = record { lens = g .roomy .lens; room = refl };
+          roomy = record { ids = g .roomy .ids; lens = g .roomy .lens; room = refl };
         }
 
     goes : (s .run .len ≡ 0 → ⊥) → (went .len ≡ 0 → ⊥) → Good (new (s .room))
@@ -286,7 +291,7 @@ step-good s g = subst (λ (r : Stepped). Good (r .sign)) (sym (sound-steps s (g 
         record {
           sound = parts-sound (new (s .room))
               (record { completed = p .completed; run = kept; collects = busy-collects (new (s .room)) on ∙ busy-nothing s (g .sound) busy });
-          roomy = record { lens = g .roomy .lens; room = g .roomy .room };
+          roomy = record { ids = g .roomy .ids; lens = g .roomy .lens; room = g .roomy .room };
         }
 
     after : (t : Bool) → eqb (went .len) 0 ≡ t → (s .run .len ≡ 0 → ⊥) → Good (new (when t (replicate 84 0) (s .room)))

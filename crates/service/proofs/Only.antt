@@ -9,10 +9,13 @@ use lib.ListN.{length, drop, length-drop, take-append-drop}
 use lib.Seq.{length-take-le}
 use borrow.Author.Tests.{eqb-true, eqb-false}
 use Rattle.perform.specs.declared.settings.Settings.{Settings}
+use Rattle.completed.specs.Completed.{idsOf}
 use Rattle.completed.specs.declared.Completed.{Completed}
+use Rattle.completed.proofs.Laws.{one-completed}
 use Rattle.collect.specs.Slots.{Collection, slotsIn, packetsOf}
 use Rattle.collect.specs.declared.Slots.{Slots}
-use Rattle.collect.proofs.Joined.{all-zeros, blank}
+use Rattle.room.proofs.Unused.{all-zeros}
+use Rattle.collect.proofs.Joined.{blank}
 use Rattle.collect.proofs.Only.{Neat, one-collection}
 use Rattle.collect.proofs.Sounds.{sound-slots}
 use Rattle.machine.specs.Sound.{bodyOf}
@@ -39,7 +42,7 @@ body-room s g busy =
 
 -- what two records hold alike
 pub record Alike (s t : Sign) : Type 0 where
-  pub completed : s .completed ≡ t .completed
+  pub ids : idsOf (s .completed) ≡ idsOf (t .completed)
   pub id : s .slots .id ≡ t .slots .id
   pub total : s .slots .total ≡ t .slots .total
   pub packets : packetsOf (s .slots .lens) (s .room) ≡ packetsOf (t .slots .lens) (t .room)
@@ -57,6 +60,13 @@ neat s g ready =
     }
 
 module _ (s t : Sign) (g : Good s) (h : Good t) (a : Alike s t) where
+  -- equal IDs, in order, are the same completed IDs
+  one-memory : s .completed ≡ t .completed
+  one-memory =
+      one-completed (s .completed) (t .completed) (sound-parts s (g .sound) .completed) (sound-parts t (h .sound) .completed) (g .roomy .ids)
+      (h .roomy .ids)
+      (a .ids)
+
   one-len : s .run .len ≡ t .run .len
   one-len = sym (body-size s g) ∙ ap length (a .body) ∙ body-size t h
 
@@ -84,7 +94,7 @@ module _ (s t : Sign) (g : Good s) (h : Good t) (a : Alike s t) where
 pub one-record : (s t : Sign) → Good s → Good t → Alike s t → s ≡ t
 one-record s t g h a =
     let w = one-room s t g h a in
-    ap (λ (d : Completed). made d (s .slots) (s .room) (s .run .len) (s .run .place) (s .run .inner) (s .run .settings)) (a .completed)
+    ap (λ (d : Completed). made d (s .slots) (s .room) (s .run .len) (s .run .place) (s .run .inner) (s .run .settings)) (one-memory s t g h a)
     ∙ ap (λ (x : Slots). made (t .completed) x (s .room) (s .run .len) (s .run .place) (s .run .inner) (s .run .settings)) (w .0)
     ∙ ap (λ (xs : List ℕ). made (t .completed) (t .slots) xs (s .run .len) (s .run .place) (s .run .inner) (s .run .settings)) (w .1)
     ∙ ap (λ (n : ℕ). made (t .completed) (t .slots) (t .room) n (s .run .place) (s .run .inner) (s .run .settings)) (one-len s t g h a)

@@ -22,6 +22,15 @@ movesOf Stored = true
 movesOf (Released v) = true
 movesOf (Refused n) = false
 
+-- whether an outcome may come with other completed IDs: a reset and a release alone
+abbrev pub completesOf : Outcome → Bool
+completesOf Query = false
+completesOf Reset = true
+completesOf Repeat = false
+completesOf Stored = false
+completesOf (Released v) = true
+completesOf (Refused n) = false
+
 -- a step, or bytes
 pub data Event : Type 0 where
   step : Event

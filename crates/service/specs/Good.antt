@@ -5,8 +5,9 @@ use lib.ListN.{length}
 use Rattle.sign.specs.Sound.{soundOf}
 use Rattle.sign.specs.declared.Sign.{Sign}
 
--- lengths and room have their sizes, as the arrays of the code do
+-- completed IDs, lengths and room have their sizes, as the arrays of the code do
 pub record Roomy (s : Sign) : Type 0 where
+  pub ids : length (s .completed .ids) ≡ 4
   pub lens : length (s .slots .lens) ≡ 6
   pub room : length (s .room) ≡ 84
 

@@ -3,6 +3,7 @@ use mathlib.Core.Path.{_≡_, sym, _∙_}
 use lib.ListN.{length}
 use Rattle.image.proofs.Copies.{filled}
 use borrow.Author.Needs.{needs}
+use Rattle.image.specs.Layout.{imageSize}
 use Rattle.cabi.proofs.loaded.store.Statement.{statement}
 use Rattle.cabi.proofs.loaded.store.Tie as tie
 
@@ -20,7 +21,7 @@ same-length c = search needs
 
 returns : tie.Need-returns
 returns c =
-    let size : length (c .before .before .before .before .before .image-of .result) ≡ 102 = search (needs, c .before .before .before .before .before .image-of .ok) in
+    let size : length (c .before .before .before .before .before .image-of .result) ≡ imageSize = search (needs, c .before .before .before .before .before .image-of .ok) in
     filled (c .before .before .before .before .before .image-of .result) (c .before .before .before .before .before .before .before .args .image .now) _ (size ∙ sym (c .before .before .before .before .before .before .before .pre)) (c .before .before .copy .ensures .1) ∙ c .before .before .before .before .before .image-of .ensures
 
 pub store-spec : {M : Type 1} → statement M

@@ -60,7 +60,7 @@ returns-2 c =
     let a = c .before .before .before .before .before .before .before .before .before .args in
     let k = collectionOf (a .slots) (a .room .now) in
     let x = c .before .before .before .before .before .before .fill .last .0 in
-    let l : length (a .slots .lens) ≡ 6 = search needs in
+    let l : length (a .slots .lens) ≡ 6 = search (needs, c .before .before .before .before .before .before .before .before .before .good .1 .0) in
     let r : length (a .room .now) ≡ 84 = search needs in
     let n : Collection = record { id = a .slots .id; total = a .slots .total; lens = set (a .slots .lens) (a .position) (length (a .part .now)); room = x } in
     let e = stored-is k (a .position) (a .part .now) x (c .before .before .before .before .before .before .fill .ensures) in

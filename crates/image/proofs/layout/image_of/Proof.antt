@@ -1,4 +1,4 @@
--- `image_of` stores the single bytes and copies the two arrays, the last before the first.
+-- `image_of` stores the single bytes and copies the three arrays, the last before the first.
 use mathlib.Core.Path.{_≡_}
 use native.Mathlib.Omega.{arith}
 use lib.ListN.{length}
@@ -67,12 +67,12 @@ part-image-end c = search needs
 
 copy-requires : tie.Need-copy-requires
 copy-requires c κs =
-    let l : length (c .before .before .before .before .before .before .before .before .before .before .before .args .sign .room) ≡ 84 = search needs in
+    let l : length (c .before .before .before .before .before .before .before .before .before .before .before .before .args .sign .room) ≡ 84 = search (needs, c .before .before .before .before .before .before .before .before .before .before .before .before .good .0) in
     omega arith
 
 slice-aggregate-copy-2 : tie.Need-slice-aggregate-copy-2
 slice-aggregate-copy-2 c =
-    let l : length (c .before .before .before .before .before .before .before .before .before .before .before .before .before .before .args .sign .slots .lens) ≡ 6 = search (needs, c .before .before .before .before .before .before .before .before .before .before .before .before .before .before .good .0) in
+    let l : length (c .before .before .before .before .before .before .before .before .before .before .before .before .before .before .before .args .sign .slots .lens) ≡ 6 = search (needs, c .before .before .before .before .before .before .before .before .before .before .before .before .before .before .before .good .0) in
     omega arith
 
 sub-copy-2 : tie.Need-sub-copy-2
@@ -86,16 +86,40 @@ part-image-end-2 c = search needs
 
 copy-requires-2 : tie.Need-copy-requires-2
 copy-requires-2 c κs =
-    let l : length (c .before .before .before .before .before .before .before .before .before .before .before .before .before .before .before .args .sign .slots .lens) ≡ 6 = search (needs, c .before .before .before .before .before .before .before .before .before .before .before .before .before .before .before .good .0) in
+    let l : length (c .before .before .before .before .before .before .before .before .before .before .before .before .before .before .before .before .args .sign .slots .lens) ≡ 6 = search (needs, c .before .before .before .before .before .before .before .before .before .before .before .before .before .before .before .before .good .0) in
+    omega arith
+
+slice-aggregate-copy-3 : tie.Need-slice-aggregate-copy-3
+slice-aggregate-copy-3 c =
+    let l : length (c .before .before .before .before .before .before .before .before .before .before .before .before .before .before .before .before .before .before .before .args .sign .completed .ids) ≡ 4 = search (needs, c .before .before .before .before .before .before .before .before .before .before .before .before .before .before .before .before .before .before .before .good .0) in
+    omega arith
+
+sub-copy-3 : tie.Need-sub-copy-3
+sub-copy-3 c = search needs
+
+part-image-start-3 : tie.Need-part-image-start-3
+part-image-start-3 c = search needs
+
+part-image-end-3 : tie.Need-part-image-end-3
+part-image-end-3 c = search needs
+
+copy-requires-3 : tie.Need-copy-requires-3
+copy-requires-3 c κs =
+    let l : length (c .before .before .before .before .before .before .before .before .before .before .before .before .before .before .before .before .before .before .before .before .args .sign .completed .ids) ≡ 4 = search (needs, c .before .before .before .before .before .before .before .before .before .before .before .before .before .before .before .before .before .before .before .before .good .0) in
     omega arith
 
 returns : tie.Need-returns
 unfolding imageOf
 returns c =
-    let a = c .before .before .before .before .before .before .before .before .before .before .before .before .before .before .before .before .before .args .sign in
-    let lens : length (a .slots .lens) ≡ 6 = search (needs, c .before .before .before .before .before .before .before .before .before .before .before .before .before .before .before .before .before .good .0) in
-    let room : length (a .room) ≡ 84 = search (needs, c .before .before .before .before .before .before .before .before .before .before .before .before .before .before .before .before .before .good .0) in
-    rw (filled (a .slots .lens) _ _ lens (c .before .copy2 .ensures .1), filled (a .room) _ _ room (c .before .before .before .before .before .copy .ensures .1))
+    let a = c .before .before .before .before .before .before .before .before .before .before .before .before .before .before .before .before .before .before .before .before .before .before .args .sign in
+    let ids : length (a .completed .ids) ≡ 4 = search (needs, c .before .before .before .before .before .before .before .before .before .before .before .before .before .before .before .before .before .before .before .before .before .before .good .0) in
+    let lens : length (a .slots .lens) ≡ 6 = search (needs, c .before .before .before .before .before .before .before .before .before .before .before .before .before .before .before .before .before .before .before .before .before .before .good .0) in
+    let room : length (a .room) ≡ 84 = search (needs, c .before .before .before .before .before .before .before .before .before .before .before .before .before .before .before .before .before .before .before .before .before .before .good .0) in
+    rw (
+      filled (a .completed .ids) _ _ ids (c .before .copy3 .ensures .1),
+      filled (a .slots .lens) _ _ lens (c .before .before .before .before .before .copy2 .ensures .1),
+      filled (a .room) _ _ room (c .before .before .before .before .before .before .before .before .before .copy .ensures .1),
+    )
 
 pub image-of-spec : {M : Type 1} → statement M
 image-of-spec =
@@ -126,4 +150,9 @@ image-of-spec =
     part-image-start-2
     part-image-end-2
     copy-requires-2
+    slice-aggregate-copy-3
+    sub-copy-3
+    part-image-start-3
+    part-image-end-3
+    copy-requires-3
     returns)

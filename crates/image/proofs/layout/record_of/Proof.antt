@@ -1,4 +1,4 @@
--- `record_of` copies the two arrays out and reads the other bytes at their places.
+-- `record_of` copies the three arrays out and reads the other bytes at their places.
 use mathlib.Core.Path.{_≡_}
 use native.Mathlib.Omega.{arith}
 use lib.ListN.{length, take, drop}
@@ -39,6 +39,21 @@ slice-aggregate-copy-2 c = search needs
 copy-requires-2 : tie.Need-copy-requires-2
 copy-requires-2 c κs = search needs
 
+sub-copy-3 : tie.Need-sub-copy-3
+sub-copy-3 c = search needs
+
+part-copy-start-3 : tie.Need-part-copy-start-3
+part-copy-start-3 c = search needs
+
+part-copy-end-3 : tie.Need-part-copy-end-3
+part-copy-end-3 c = search needs
+
+slice-aggregate-copy-3 : tie.Need-slice-aggregate-copy-3
+slice-aggregate-copy-3 c = search needs
+
+copy-requires-3 : tie.Need-copy-requires-3
+copy-requires-3 c κs = search needs
+
 array-read-len : tie.Need-array-read-len
 array-read-len c = search needs
 
@@ -57,41 +72,42 @@ array-read-behind c = search needs
 cast-behind : tie.Need-cast-behind
 cast-behind c = search needs
 
-array-read-t29 : tie.Need-array-read-t29
-array-read-t29 c = search needs
+array-read-t36 : tie.Need-array-read-t36
+array-read-t36 c = search needs
 
-array-read-t29-2 : tie.Need-array-read-t29-2
-array-read-t29-2 c = search needs
+array-read-t36-2 : tie.Need-array-read-t36-2
+array-read-t36-2 c = search needs
 
-array-read-t40 : tie.Need-array-read-t40
-array-read-t40 c = search needs
+array-read-t48 : tie.Need-array-read-t48
+array-read-t48 c = search needs
 
-array-read-t29-3 : tie.Need-array-read-t29-3
-array-read-t29-3 c = search needs
+array-read-t36-3 : tie.Need-array-read-t36-3
+array-read-t36-3 c = search needs
 
-array-read-t40-2 : tie.Need-array-read-t40-2
-array-read-t40-2 c = search needs
+array-read-t48-2 : tie.Need-array-read-t48-2
+array-read-t48-2 c = search needs
 
-array-read-t29-4 : tie.Need-array-read-t29-4
-array-read-t29-4 c = search needs
+array-read-t36-4 : tie.Need-array-read-t36-4
+array-read-t36-4 c = search needs
 
-array-read-t50 : tie.Need-array-read-t50
-array-read-t50 c = search needs
+array-read-t58 : tie.Need-array-read-t58
+array-read-t58 c = search needs
 
-array-read-t53 : tie.Need-array-read-t53
-array-read-t53 c = search needs
+array-read-t61 : tie.Need-array-read-t61
+array-read-t61 c = search needs
 
-array-read-t56 : tie.Need-array-read-t56
-array-read-t56 c = search needs
+array-read-t64 : tie.Need-array-read-t64
+array-read-t64 c = search needs
 
 returns : tie.Need-returns
 unfolding recordOf
 returns c =
-    let i = c .before .before .before .before .before .before .before .before .before .before .args .t1 in
-    let size : length i ≡ 102 = search (needs, c .before .before .before .before .before .before .before .before .before .before .good .0) in
+    let i = c .before .before .before .before .before .before .before .before .before .before .before .before .before .before .before .args .t1 in
+    let size : length i ≡ 106 = search (needs, c .before .before .before .before .before .before .before .before .before .before .before .before .before .before .before .good .0) in
     rw (
-      filled (take 6 (drop 3 i)) _ _ (cut-length i 3 6 (omega arith)) (c .before .before .before .before .before .before .copy .ensures .1),
-      filled (take 84 (drop 9 i)) _ _ (cut-length i 9 84 (omega arith)) (c .before .copy2 .ensures .1),
+      filled (take 4 (drop 1 i)) _ _ (cut-length i 1 4 (omega arith)) (c .before .before .before .before .before .before .before .before .before .before .before .copy .ensures .1),
+      filled (take 6 (drop 7 i)) _ _ (cut-length i 7 6 (omega arith)) (c .before .before .before .before .before .before .copy2 .ensures .1),
+      filled (take 84 (drop 13 i)) _ _ (cut-length i 13 84 (omega arith)) (c .before .copy3 .ensures .1),
     )
 
 pub record-of-spec : {M : Type 1} → statement M
@@ -108,19 +124,24 @@ record-of-spec =
     part-copy-end-2
     slice-aggregate-copy-2
     copy-requires-2
+    sub-copy-3
+    part-copy-start-3
+    part-copy-end-3
+    slice-aggregate-copy-3
+    copy-requires-3
     array-read-len
     cast-len
     array-read-place
     cast-place
     array-read-behind
     cast-behind
-    array-read-t29
-    array-read-t29-2
-    array-read-t40
-    array-read-t29-3
-    array-read-t40-2
-    array-read-t29-4
-    array-read-t50
-    array-read-t53
-    array-read-t56
+    array-read-t36
+    array-read-t36-2
+    array-read-t48
+    array-read-t36-3
+    array-read-t48-2
+    array-read-t36-4
+    array-read-t58
+    array-read-t61
+    array-read-t64
     returns)

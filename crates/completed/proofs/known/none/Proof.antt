@@ -1,8 +1,8 @@
--- `none` knows no ID.
+-- `none` holds no ID.
 use mathlib.Core.Path.{refl}
 use Rattle.completed.specs.Completed.{noneOf}
-use Rattle.completed.proofs.none.Statement.{statement}
-use Rattle.completed.proofs.none.Tie as tie
+use Rattle.completed.proofs.known.none.Statement.{statement}
+use Rattle.completed.proofs.known.none.Tie as tie
 
 returns : tie.Need-returns
 unfolding noneOf

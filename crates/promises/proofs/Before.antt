@@ -1,4 +1,4 @@
--- With a MID that is not forbidden the calls for C answer as in version 1.1.
+-- With a MID that is not forbidden the calls for C answer as without the guard.
 use Prim.Native.Nat.{ℕ}
 use mathlib.Core.Bool.{not}
 use mathlib.Core.List.{List, [], _∷_}

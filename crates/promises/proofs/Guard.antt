@@ -1,4 +1,4 @@
--- Ours has the guard for a forbidden MID, for C too, and with any other MID it is the unit of version 1.1.
+-- Ours has the guard for a forbidden MID, for C too, and with any other MID it answers as without the guard.
 use Prim.Native.Nat.{ℕ}
 use mathlib.Core.Bool.{Bool, true, false, not}
 use mathlib.Core.List.{List, [], _∷_}
@@ -134,7 +134,7 @@ guards-for-c =
           ∙ mid-stops mid own e);
     }
 
--- with any other MID every call answers as before
+-- with any other MID every call answers as without the guard
 pub ours-agrees : Agree ours unguarded
 unfolding by
 ours-agrees =

@@ -1,6 +1,5 @@
--- The calls for C that take a MID, as they were in version 1.1, before the guard of C-15: N251, N16 and N252 in the order
--- that N0 had then. They are made of the definitions that they had; where one of these changes, a copy of it has to stay
--- here.
+-- The calls for C that take a MID, without the guard of C-15: N251, N16 and N252 in the order that N0 had before it. They
+-- are those of version 1.1, but that a sign knows four completed IDs, and the image has room for them (C-23).
 use Prim.Native.Nat.{ℕ}
 use mathlib.Core.Bool.{Bool}
 use mathlib.Core.List.{List, [], _∷_}
@@ -53,7 +52,7 @@ receiveImageBefore image answer x = keptOf (receiveNoBefore image answer x) imag
 abbrev pub receiveAnswerBefore : (image answer : List ℕ) → Received → List ℕ
 receiveAnswerBefore image answer x = keptOf (receiveNoBefore image answer x) answer (laid (receivedBytes (x .outcome) (x .body) (x .len)) answer)
 
--- with a MID that is not forbidden each of them answers as before; a writer's rows are those after the guard
+-- with a MID that is not forbidden each call answers as without the guard; a writer's rows are those after the guard
 pub record AgreeForC : Type 0 where
   pub read-no : (mid : ℕ) (bytes answer : List ℕ) → Allowed mid → readNo mid bytes answer ≡ readNoBefore mid bytes answer
   pub read-answer : (mid : ℕ) (bytes answer : List ℕ) → Allowed mid → readAnswer mid bytes answer ≡ readAnswerBefore mid bytes answer

@@ -1,5 +1,5 @@
 -- The guard for a sign's own MID (N19, C-15): each call that takes one refuses a forbidden MID, after 16 and before all else,
--- and with any other MID answers as in version 1.1, which had no guard.
+-- and with any other MID answers as it would without the guard.
 use Prim.Native.Nat.{ℕ}
 use mathlib.Core.Bool.{Bool, true, false}
 use mathlib.Core.List.{List, [], _∷_}
@@ -71,8 +71,7 @@ pub record Agree (u v : Calls Sign) : Type 0 where
   pub receive : (s : Sign) (mid : ℕ) (b : List ℕ) → Allowed mid → u .receive s mid b ≡ v .receive s mid b
   pub reply : (s : Sign) (mid : ℕ) (sink : Bool) (out : List ℕ) → Allowed mid → u .reply s mid sink out ≡ v .reply s mid sink out
 
--- the calls of version 1.1, which take every MID, made of the definitions that they had; where one of these changes, a copy of it has to
--- stay here
+-- the calls without the guard, which take every MID: those of version 1.1, but that a sign knows four completed IDs (C-23)
 abbrev pub unguarded : Calls Sign
 unguarded =
     record {

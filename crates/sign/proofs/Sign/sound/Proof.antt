@@ -14,7 +14,7 @@ framed-requires c κs = search needs
 
 returns : tie.Need-returns
 returns c =
-    let s = c .before .before .before .before .before .before .before .args .t1 in
+    let s = c .before .before .before .before .before .before .before .before .args .t1 in
     sym (sound-framed s ∙ ap (λ (t : Bool). t and runSound (s .room) (s .run)) (sym (c .before .framed .ensures) ∙ not-true _ (c .if1 .taken)))
 
 sound-requires : tie.Need-sound-requires
@@ -22,7 +22,7 @@ sound-requires c κs = search needs
 
 returns-2 : tie.Need-returns-2
 returns-2 c =
-    let s = c .before .before .before .before .before .before .before .before .before .before .before .args .t1 in
+    let s = c .before .before .before .before .before .before .before .before .before .before .before .before .args .t1 in
     c .sound .ensures
     ∙ sym (sound-framed s ∙ ap (λ (t : Bool). t and runSound (s .room) (s .run)) (sym (c .before .before .before .before .before .framed .ensures) ∙ not-false _ (c .before .before .before .before .if1 .left)))
 

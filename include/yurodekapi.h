@@ -242,24 +242,25 @@ static inline void yd_get_forecast(const uint8_t *answer, struct yd_forecast_ans
  * One room holds the collected packets while the sign is Ready and the running body while it is Busy: it never needs both at once.
  * While Ready, the data of position p stand from byte 13 + 14p on. While Busy, the body stands from byte 13 on, and the ID being
  * collected, its total and all six lengths are 0. Room that is not used is zeros; anything else there is unsound.
- * The sign remembers the last four IDs that it completed since its reset, and a packet of any of them is a Repeat.
+ * The sign remembers the last four IDs that it completed since its reset, and a packet of any of them is a Repeat. None of them stands twice,
+ * each is 3Fh at most, none is the one that is being collected, and the bytes of those that are missing are zeros; all else is unsound.
  * A sound record has one image only, so a query, a Repeat and an Idle step change no byte of it. The layout belongs to this version. */
 enum {
-    YD_AT_COUNT = 0,       /* how many completed IDs there are, 0 to 4 */
-    YD_AT_COMPLETED = 1,   /* the completed IDs, newest first, 4 bytes */
-    YD_AT_ID = 5,          /* ID being collected, 0 if none */
-    YD_AT_TOTAL = 6,       /* its packet total, 0 if none */
-    YD_AT_LENS = 7,        /* data length by position, 6 bytes; 0 is not held */
-    YD_AT_ROOM = 13,       /* collected packets or running body, 84 bytes */
-    YD_AT_LENGTH = 97,     /* length of the running body; 0 is Ready, all else is Busy */
-    YD_AT_PLACE = 98,      /* place of the next command */
-    YD_AT_LOOP_PLACE = 99, /* place after the open L, 0 outside loops */
-    YD_AT_LOOP_LEFT = 100, /* passes left, this one counted, 0 outside loops */
+    YD_AT_COMPLETED_COUNT = 0, /* how many completed IDs there are, 0 to 4 */
+    YD_AT_COMPLETED = 1,       /* the completed IDs, newest first, then zeros, 4 bytes */
+    YD_AT_ID = 5,              /* ID being collected, 0 if none */
+    YD_AT_TOTAL = 6,           /* its packet total, 0 if none */
+    YD_AT_LENS = 7,            /* data length by position, 6 bytes; 0 is not held */
+    YD_AT_ROOM = 13,           /* collected packets or running body, 84 bytes */
+    YD_AT_LENGTH = 97,         /* length of the running body; 0 is Ready, all else is Busy */
+    YD_AT_PLACE = 98,          /* place of the next command */
+    YD_AT_LOOP_PLACE = 99,     /* place after the open L, 0 outside loops */
+    YD_AT_LOOP_LEFT = 100,     /* passes left, this one counted, 0 outside loops */
     YD_AT_PACE = 101,
-    YD_AT_SCANS = 102,     /* scan setting: scans per shift */
-    YD_AT_SINK = 103,      /* AUX drive: 0 floats, 1 sinks; all else is unsound */
-    YD_AT_DIM = 104,       /* dim threshold */
-    YD_AT_BRIGHT = 105     /* forced brightness, 0 if none */
+    YD_AT_SCANS = 102,         /* scan setting: scans per shift */
+    YD_AT_SINK = 103,          /* AUX drive: 0 floats, 1 sinks; all else is unsound */
+    YD_AT_DIM = 104,           /* dim threshold */
+    YD_AT_BRIGHT = 105         /* forced brightness, 0 if none */
 };
 
 /* 1 if the sign of this image is Busy, 0 if it is Ready. It reads one byte, and takes the image for sound. */
@@ -268,7 +269,7 @@ static inline int yd_is_busy(const uint8_t *image) { return image[YD_AT_LENGTH] 
 
 /* The last completed ID of the sign of this image, 41h if it has completed none since its reset. It takes the image for sound. */
 YD_NOT_NULL
-static inline uint8_t yd_last_completed(const uint8_t *image) { return image[YD_AT_COUNT] == 0 ? 0x41 : image[YD_AT_COMPLETED]; }
+static inline uint8_t yd_last_completed(const uint8_t *image) { return image[YD_AT_COMPLETED_COUNT] == 0 ? 0x41 : image[YD_AT_COMPLETED]; }
 
 /* Make the image of a sign that was just switched on, whatever it held. No: 251. */
 YD_USE_RESULT YD_NOT_NULL

@@ -63,7 +63,7 @@ static void sizes(void)
 
 static void offsets(void)
 {
-    CHECK(YD_AT_COUNT, 0);
+    CHECK(YD_AT_COMPLETED_COUNT, 0);
     CHECK(YD_AT_COMPLETED, 1);
     CHECK(YD_AT_ID, 5);
     CHECK(YD_AT_TOTAL, 6);
@@ -608,7 +608,7 @@ static void just_on(uint8_t *image)
 /* The one ID that a sign has completed. */
 static void completed_one(uint8_t *image, uint8_t id)
 {
-    image[YD_AT_COUNT] = 1;
+    image[YD_AT_COMPLETED_COUNT] = 1;
     image[YD_AT_COMPLETED] = id;
 }
 
@@ -676,11 +676,11 @@ static void all_spoiled(int line, const uint8_t *sound, const struct spoiled *ro
 static void unsound_ready(void)
 {
     static const struct spoiled rows[] = {
-        { YD_AT_COUNT, 2 },       { YD_AT_COUNT, 5 },      { YD_AT_COMPLETED, 1 },    { YD_AT_PACE, 0 },        { YD_AT_PACE, 21 },
-        { YD_AT_SCANS, 0 },       { YD_AT_SCANS, 7 },      { YD_AT_SINK, 2 },         { YD_AT_DIM, 0 },         { YD_AT_BRIGHT, 1 },
-        { YD_AT_BRIGHT, 32 },     { YD_AT_PLACE, 1 },      { YD_AT_LOOP_PLACE, 3 },   { YD_AT_LOOP_LEFT, 1 },   { YD_AT_ROOM, 1 },
-        { YD_AT_LENGTH - 1, 1 },  { YD_AT_ID, 5 },         { YD_AT_TOTAL, 2 },        { YD_AT_LENS, 14 },       { YD_AT_LENS + 5, 1 },
-        { YD_AT_LENGTH, 1 },      { YD_AT_LENGTH, 84 },    { YD_AT_LENGTH, 85 },      { YD_AT_LENGTH, 255 },
+        { YD_AT_COMPLETED_COUNT, 2 }, { YD_AT_COMPLETED_COUNT, 5 }, { YD_AT_COMPLETED, 1 },   { YD_AT_PACE, 0 },       { YD_AT_PACE, 21 },
+        { YD_AT_SCANS, 0 },           { YD_AT_SCANS, 7 },           { YD_AT_SINK, 2 },        { YD_AT_DIM, 0 },        { YD_AT_BRIGHT, 1 },
+        { YD_AT_BRIGHT, 32 },         { YD_AT_PLACE, 1 },           { YD_AT_LOOP_PLACE, 3 },  { YD_AT_LOOP_LEFT, 1 },  { YD_AT_ROOM, 1 },
+        { YD_AT_LENGTH - 1, 1 },      { YD_AT_ID, 5 },              { YD_AT_TOTAL, 2 },       { YD_AT_LENS, 14 },      { YD_AT_LENS + 5, 1 },
+        { YD_AT_LENGTH, 1 },          { YD_AT_LENGTH, 84 },         { YD_AT_LENGTH, 85 },     { YD_AT_LENGTH, 255 },
     };
     uint8_t image[YD_IMAGE_SIZE];
     just_on(image);
@@ -1238,13 +1238,13 @@ static void all_forbid(uint8_t mid, const uint8_t *to_it, const uint8_t *from_it
     CHECK(yd_reply(image, sizeof image, mid, YD_AUX_FLOAT, lent, sizeof lent), 19);
     CHECK(yd_reply(image, sizeof image, mid, YD_AUX_FLOAT, lent, 0), 19);
     /* An unsound record and an image of another size come before it. */
-    image[YD_AT_COUNT] = 5;
+    image[YD_AT_COMPLETED_COUNT] = 5;
     CHECK(yd_receive(image, sizeof image, mid, to_it, 7, lent, sizeof lent), 16);
     CHECK(yd_receive(image, sizeof image, mid, to_it, 0, lent, 0), 16);
     CHECK(yd_reply(image, sizeof image, mid, YD_AUX_FLOAT, lent, 0), 16);
     CHECK(yd_receive(image, 105, mid, to_it, 7, lent, sizeof lent), 251);
     CHECK(yd_reply(image, 105, mid, YD_AUX_FLOAT, lent, 0), 251);
-    image[YD_AT_COUNT] = record[YD_AT_COUNT];
+    image[YD_AT_COMPLETED_COUNT] = record[YD_AT_COMPLETED_COUNT];
     check_bytes(__LINE__, "image", image, record, sizeof image);
     check_filled(__LINE__, "lent bytes", lent, sizeof lent);
 }

@@ -63,7 +63,7 @@ void race_assert_names(const uint32_t *used, size_t count)
     NEXT_IS(YD_NO_IMAGE_SIZE);
     NEXT_IS(YD_NO_ANSWER_SHORT);
 
-    NEXT_IS(YD_AT_COUNT);
+    NEXT_IS(YD_AT_COMPLETED_COUNT);
     NEXT_IS(YD_AT_COMPLETED);
     NEXT_IS(YD_AT_ID);
     NEXT_IS(YD_AT_TOTAL);

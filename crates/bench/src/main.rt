@@ -1,4 +1,4 @@
-// The bench (P5): every example of the rules that has no star, and every forecast, by the public calls, a line each.
+// The bench (P5): the examples of the rules that have no star, but those of J and R, which `bus` has, and every forecast, by the public calls, a line each.
 // The file stdout is written from the rules.
 //   carry      how many packets a body takes
 //   show       a body sent to a new sign packet by packet, and its first step

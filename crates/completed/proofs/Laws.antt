@@ -131,8 +131,8 @@ unfolding noneOf
 none-room = refl
 
 -- sound ones depend only on the IDs that there are
-pub one-completed : (d e : Completed) → soundOf d ≡ true → soundOf e ≡ true → length (d .ids) ≡ 4 → length (e .ids) ≡ 4 → idsOf d ≡ idsOf e → d ≡ e
-one-completed d e sd se ld le same =
+pub same-completed : (d e : Completed) → soundOf d ≡ true → soundOf e ≡ true → length (d .ids) ≡ 4 → length (e .ids) ≡ 4 → idsOf d ≡ idsOf e → d ≡ e
+same-completed d e sd se ld le same =
     let p = sound-parts d sd in
     let q = sound-parts e se in
     let cd : length (idsOf d) ≡ d .count = length-take-le (d .count) (d .ids) (omega (arith, p .most)) in

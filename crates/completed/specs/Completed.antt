@@ -1,5 +1,5 @@
 -- The IDs that a sign has completed since its reset, the last four of them (J1; C-23): which are Repeats (J4), which is
--- told as the last (W10), what a completion (J10) and a reset (J14) leave of them, and which are sound (R2, R5).
+-- told as the last (W10), what a completion (J10), a reset (J14) and power-on (J15) leave of them, and which are sound (R2, R5).
 use Prim.Native.Nat.{ℕ, _+_}
 use mathlib.Core.Bool.{Bool, true, false, not}
 use mathlib.Core.List.{List, [], _∷_}

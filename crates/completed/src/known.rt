@@ -1,4 +1,4 @@
-// Which IDs are known as completed, and one more: J4, J10, J13, J14, and the last for W10.
+// Which IDs are known as completed, and one more: J4, J10, J14, J15, and the last for W10.
 use crate::Completed;
 ghost use mathlib.Core.Path.{_≡_};
 ghost use Rattle.completed.specs.Completed.{moreOf, noneOf, lastOf, isAmong, hasOf, addedOf};

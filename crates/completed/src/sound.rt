@@ -1,4 +1,4 @@
-// Which completed IDs are sound: none to four, each to 3Fh and none twice (R2), and zeros in the room of the others (R5).
+// Which completed IDs are sound: none to four, each 3Fh at most and none twice (R2), and zeros in the room of the others (R5).
 use crate::Completed;
 use crate::known::among;
 use room::clean;

@@ -137,7 +137,7 @@ module _ (mid id : ℕ) (body out : List ℕ) (w : Written mid id body out) wher
       ap (λ (t : Sign). heardIn (receiveOf t mid (packetIn buffer p))) (behind-is s p (omega arith))
       ∙ ap (λ (b : List ℕ). heardIn (receiveOf (afterPackets s mid id body p) mid b)) (packet-in p below)
 
-  -- a copy of one of them, to a sign that has the number as last
+  -- a copy of one of them, to a sign that has the number among its completed ones
   pub copy-is : (s : Sign) → Good s → hasOf (s .completed) id ≡ true → (p : ℕ) → p < totalOf body
       → ours .receive s mid (packetIn buffer p) ≡ stays s (outcomeTold Repeat)
   unfolding staysOf

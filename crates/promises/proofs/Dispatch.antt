@@ -79,7 +79,7 @@ module _ (s : Sign) (good : Good s) (mid id : ℕ) (body out : List ℕ) (endles
   set : settingsSound σ ≡ true
   set = started-set t body σ started
 
-  -- a record that still has the number as last takes a copy for a Repeat
+  -- a record that still has the same completed numbers takes a copy for a Repeat
   copied : (x : Sign) → Good x → x .completed ≡ t .completed → (p : ℕ) → p < totalOf body → Repeated ours x mid (packetIn found p)
   copied x g e p below = copy-is mid id body out w x g (ap (λ (d : Completed). hasOf d id) e ∙ behind-has s good mid id body out w awaits) p below
 

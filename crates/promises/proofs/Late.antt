@@ -1,11 +1,11 @@
 -- Ours knows the last four numbers, whatever comes between the lines but a reset and another line.
-use Prim.Native.Nat.{ℕ, _≤_}
+use Prim.Native.Nat.{ℕ, zero, suc, _≤_}
 use mathlib.Core.Bool.{Bool, true, false, not}
 use mathlib.Core.List.{List, [], _∷_, _++_}
 use mathlib.Core.Path.{_≡_, refl, sym, ap, _∙_}
 use native.Mathlib.Omega.{arith}
 use lib.Dec.{eqb, leb}
-use lib.ListN.{take}
+use lib.ListN.{take, replicate}
 use lib.Seq.{take-take, take-all}
 use borrow.Author.Tests.{eqb-true, eq-eqb, not-true}
 use Rattle.basis.specs.Choice.{_and_, _or_}
@@ -13,32 +13,23 @@ use Rattle.basis.proofs.Choices.{and-parts}
 use Rattle.completed.specs.Completed.{idsOf, isAmong, differOf, hasOf}
 use Rattle.completed.specs.declared.Completed.{Completed}
 use Rattle.completed.proofs.Laws.{ids-most, ids-added, sound-parts as completed-parts}
-use Rattle.hear.specs.Hear.{toldOf as outcomeTold}
-use Rattle.hear.specs.declared.Outcome.{Outcome}
-use Rattle.hear.specs.declared.Outcome.the-variants.{Query, Reset, Repeat, Stored, Released, Refused}
+use Rattle.collect.specs.Slots.{collectionOf, slotsIn, begunOf, noneOf}
+use Rattle.collect.specs.declared.Slots.{Slots}
+use Rattle.hear.specs.Join.{beginsOf}
 use Rattle.sign.specs.Step.{stepOf}
 use Rattle.sign.specs.Receive.{receiveOf}
 use Rattle.sign.specs.declared.Sign.{Sign}
 use Rattle.sign.proofs.Sounds.{sound-parts}
-use Rattle.service.specs.Driver.{completesOf, Event, step, bytes}
+use Rattle.service.specs.Driver.{Event, step, bytes, afterSteps}
 use Rattle.service.specs.Good.{Good}
 use Rattle.service.proofs.Driver.{receive-completed}
 use Rattle.service.proofs.Keeps.{receive-good, step-good}
-use Rattle.service.proofs.Punctual.{steps-completed}
-use Rattle.promises.specs.Unit.{ours, valueAt}
+use Rattle.service.proofs.Punctual.{steps-completed, steps-slots}
+use Rattle.promises.specs.Unit.{ours}
 use Rattle.promises.specs.Line.{after}
 use Rattle.promises.specs.Late.{Sent, idsIn, delivered, afterAll, Between, Came, Late, LateCopies}
-use Rattle.promises.proofs.Delivery.{written, behind-good, behind-completed}
+use Rattle.promises.proofs.Delivery.{written, behind-good, behind-completed, gets}
 use Rattle.promises.proofs.Record.{ours-obeys}
-
--- an answer that is neither Reset nor Released
-no-completion : (o : Outcome) → (valueAt 0 (outcomeTold o) ≡ 2 → ⊥) → (valueAt 0 (outcomeTold o) ≡ 5 → ⊥) → completesOf o ≡ false
-no-completion Query a b = refl
-no-completion Reset a b = absurd (a refl)
-no-completion Repeat a b = refl
-no-completion Stored a b = refl
-no-completion (Released v) a b = absurd (b refl)
-no-completion (Refused n) a b = refl
 
 -- what comes between lines leaves a sound record sound, with the completed IDs that it has
 between-keeps : (mid : ℕ) (es : List Event) (s : Sign) → Good s → Between ours mid es s
@@ -48,8 +39,8 @@ between-keeps mid (step ∷ es) s g w =
     let h = between-keeps mid es (stepOf s .sign) (step-good s g) w in
     (h .0, h .1 ∙ steps-completed 1 s g)
 between-keeps mid (bytes b ∷ es) s g w =
-    let h = between-keeps mid es (receiveOf s mid b .sign) (receive-good s mid b g) (w .1 .1) in
-    (h .0, h .1 ∙ receive-completed s mid b (no-completion (receiveOf s mid b .outcome) (w .0) (w .1 .0)))
+    let h = between-keeps mid es (receiveOf s mid b .sign) (receive-good s mid b g) (w .1) in
+    (h .0, h .1 ∙ receive-completed s mid b (w .0))
 
 -- one more in front of four at most
 front : (id : ℕ) (xs : List ℕ) → take 4 (id ∷ take 4 xs) ≡ take 4 (id ∷ xs)
@@ -76,6 +67,23 @@ knows mid (x ∷ xs) s g w =
           ∙ front (x .id) (idsIn xs ++ idsOf (s .completed)),
     )
 
+-- steps alone after a line leave nothing collected
+steps-after : (mid : ℕ) (k : ℕ) (s : Sign) → after ours mid (replicate k step) s ≡ afterSteps k s
+steps-after mid zero s = refl
+steps-after mid (suc k) s = steps-after mid k (stepOf s .sign)
+
+collects-none : (mid : ℕ) (x : Sent) (xs : List Sent) (k : ℕ) (s : Sign) → Good s → Came ours mid (x ∷ xs) s → x .events ≡ replicate k step
+    → afterAll ours mid (x ∷ xs) s .slots ≡ slotsIn noneOf
+collects-none mid x xs k s g w steps =
+    let h = knows mid xs s g (w .1 .1 .1) in
+    let t = afterAll ours mid xs s in
+    let sent = written mid (x .id) (x .body) (x .out) (w .0) in
+    let good = behind-good t (h .0) mid (x .id) (x .body) (x .out) sent (w .1 .0) in
+    ap (λ (es : List Event). after ours mid es (delivered ours mid x t) .slots) steps
+    ∙ ap (λ (y : Sign). y .slots) (steps-after mid k (delivered ours mid x t))
+    ∙ steps-slots k (delivered ours mid x t) good
+    ∙ gets t (h .0) mid (x .id) (x .body) (x .out) sent (w .1 .0) .none
+
 -- the last of different numbers isn't among the others
 apart : (s : List ℕ) (a : ℕ) → differOf (s ++ (a ∷ [])) ≡ true → isAmong a s ≡ false
 apart [] a e = refl
@@ -100,10 +108,12 @@ apart (x ∷ xs) a e =
         absurd (omega arith)
 
 pub ours-remembers : LateCopies ours
-unfolding hasOf
+unfolding hasOf begunOf
 ours-remembers =
     record {
       known = λ s g mid xs w. knows mid xs s g w .1;
+      collects-nothing = λ s g mid x xs k w steps id.
+          ap (λ (y : Slots). beginsOf (collectionOf y (afterAll ours mid (x ∷ xs) s .room)) id) (collects-none mid x xs k s g w steps);
       five = λ s g mid a b c d e w differ.
           let xs = e ∷ d ∷ c ∷ b ∷ a ∷ [] in
           let h = knows mid xs s g w in

@@ -43,7 +43,7 @@ use Rattle.service.specs.Good.{Roomy}
 use Rattle.promises.specs.Bench.{hi, query7F, w5}
 use Rattle.promises.specs.Unit.{Wrote, ours, valueAt}
 use Rattle.promises.specs.Keeps.{Keeps}
-use Rattle.promises.specs.Wrong.{refusing, eager, noisy, misled, misset, wary, hurried, sorry, rumour, hearsay, idle, scribbling, trusting, madeUp, inventing, lenient, atOnce, fixed, startingOver, shaken, forgetful, agreeable, deaf, orderly, surly, jumpy, frozen, sulking, drowsy, rosy, mute, parrot, dated, trailing, encore, counting, knowing, brief, distracted, flustered}
+use Rattle.promises.specs.Wrong.{refusing, eager, noisy, misled, misset, wary, hurried, sorry, rumour, hearsay, idle, scribbling, trusting, madeUp, inventing, lenient, atOnce, fixed, startingOver, shaken, forgetful, agreeable, deaf, orderly, surly, jumpy, frozen, sulking, drowsy, rosy, mute, parrot, dated, trailing, encore, counting, knowing, narrow, brief, hoarding, distracted, flustered}
 use Rattle.promises.specs.Guard.{unguarded}
 use Rattle.promises.proofs.Pins.{no-other-unit}
 
@@ -210,6 +210,19 @@ after-three = knowing (addedOf (addedOf (addedOf noCompleted 1) 2) 3) powerOn
 roomy-three : Roomy after-three
 unfolding after-three noCompleted addedOf freshOf readyOf begunOf
 roomy-three = record { ids = refl; lens = refl; room = refl }
+
+pub narrow-fails : Keeps narrow → ⊥
+unfolding after-three noCompleted lastOf hasOf addedOf completedSound freshOf readyOf startedOf clearedOf stepOf runStep settle answerOf receiveOf joinOf releaseOf staysOf soundOf runSound collectionSound judgeOf commandAt settingsSound roomOf slotsOf heldOf joinedOf sameOf begunOf storedOf standOf laid sum packetOf partOf packetsOf replyOf isForbidden lowestOf readOf heardFrom heardOf repeatOf
+narrow-fails k =
+    let n : _≡_ {A = ℕ} 5 3 = ap (valueAt 0) (no-other-unit narrow k .receive after-three roomy-three 0x80 (packetAt 0x80 1 w5 0) .told) in
+    omega arith
+
+pub hoarding-fails : Keeps hoarding → ⊥
+unfolding after-three noCompleted lastOf hasOf addedOf completedSound freshOf readyOf startedOf clearedOf stepOf runStep settle answerOf receiveOf joinOf releaseOf staysOf soundOf runSound collectionSound judgeOf commandAt settingsSound roomOf slotsOf heldOf joinedOf sameOf begunOf storedOf standOf laid sum packetOf partOf packetsOf replyOf isForbidden lowestOf readOf heardFrom heardOf repeatOf
+hoarding-fails k =
+    let n : _≡_ {A = ℕ} 3 5 =
+    ap (valueAt 0) (no-other-unit hoarding k .receive (record { sign = after-three; older = 7 ∷ [] }) roomy-three 0x80 (packetAt 0x80 7 w5 0) .told) in
+    omega arith
 
 pub brief-fails : Keeps brief → ⊥
 unfolding after-three noCompleted lastOf hasOf addedOf completedSound freshOf readyOf startedOf clearedOf stepOf runStep settle answerOf receiveOf joinOf releaseOf staysOf soundOf runSound collectionSound judgeOf commandAt settingsSound roomOf slotsOf heldOf joinedOf sameOf begunOf storedOf standOf laid sum packetOf partOf packetsOf replyOf isForbidden lowestOf readOf heardFrom heardOf repeatOf

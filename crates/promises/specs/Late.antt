@@ -1,10 +1,10 @@
 -- Late copies (C-23): after lines a sign knows the last four of their numbers. A packet of one of these is a Repeat that
--- changes nothing, and a number that was pushed out is new again. By J4, J5, J6, J10 and J14.
+-- changes nothing, and a number that was pushed out is new again. By J4, J5, J6 and J10.
 use Prim.Native.Nat.{ℕ}
-use mathlib.Core.Bool.{true}
+use mathlib.Core.Bool.{true, false}
 use mathlib.Core.List.{List, [], _∷_, _++_}
 use mathlib.Core.Path.{_≡_}
-use lib.ListN.{take, drop}
+use lib.ListN.{take, drop, replicate}
 use Rattle.basis.specs.Told.{no}
 use Rattle.packet.specs.Wire.{totalOf}
 use Rattle.reader.specs.Read.{readOf}
@@ -13,17 +13,18 @@ use Rattle.completed.specs.Completed.{idsOf, isAmong, differOf}
 use Rattle.collect.specs.Slots.{begunOf, storedOf}
 use Rattle.hear.specs.Join.{beginsOf}
 use Rattle.sign.specs.Join.{countedOf}
+use Rattle.sign.specs.Receive.{receiveOf}
 use Rattle.sign.specs.Sound.{collectedOf}
 use Rattle.service.specs.Delivery.{Awaits}
-use Rattle.service.specs.Driver.{Event, step, bytes}
+use Rattle.service.specs.Driver.{movesCompleted, Event, step, bytes}
 use Rattle.service.specs.Good.{Good}
-use Rattle.promises.specs.Unit.{Calls, valueAt}
+use Rattle.promises.specs.Unit.{Calls}
 use Rattle.promises.specs.Record.{stays, Heeds}
 use Rattle.promises.specs.Delivery.{behind}
 use Rattle.promises.specs.Dispatch.{Repeated}
 use Rattle.promises.specs.Line.{after}
 
--- a line sent to a sign: its number, its body, the buffer that its packets are written into, and what comes after it, up to the next line
+-- a line sent to a sign: its number, its body, a program or not, the buffer that its packets are written into, and what comes after it, up to the next line
 pub record Sent : Type 0 where
   pub id : ℕ
   pub body : List ℕ
@@ -44,12 +45,12 @@ abbrev pub afterAll : {R : Type 0} → Calls R → ℕ → List Sent → R → R
 afterAll u mid [] r = r
 afterAll u mid (x ∷ xs) r = after u mid (x .events) (delivered u mid x (afterAll u mid xs r))
 
--- steps, and bytes that are answered neither Reset nor Released: copies, queries, damaged packets, parts of other lines
+-- steps, and bytes that by the rules are no reset and complete nothing: copies, queries, damaged packets, parts of other lines
 abbrev pub Between : {R : Type 0} → Calls R → ℕ → List Event → R → Type 0
 Between u mid [] r = Unit
 Between u mid (step ∷ es) r = Between u mid es (u .step r .next)
 Between u mid (bytes b ∷ es) r =
-    (valueAt 0 (u .receive r mid b .told) ≡ 2 → ⊥) × ((valueAt 0 (u .receive r mid b .told) ≡ 5 → ⊥) × Between u mid es (u .receive r mid b .next))
+    (movesCompleted (receiveOf (u .holds r) mid b .outcome) ≡ false) × Between u mid es (u .receive r mid b .next)
 
 -- each line was written, and came to a sign that awaits its number
 abbrev pub Came : {R : Type 0} → Calls R → ℕ → List Sent → R → Type 0
@@ -71,7 +72,11 @@ pub record LateCopies {R : Type 0} (u : Calls R) : Type 0 where
   -- after any number of lines: their numbers and those of before, and four at most
   pub known : (r : R) → Good (u .holds r) → (mid : ℕ) (xs : List Sent) → Came u mid xs r
       → idsOf (u .holds (afterAll u mid xs r) .completed) ≡ take 4 (idsIn xs ++ idsOf (u .holds r .completed))
-  -- after five lines of different numbers: the last four are known, and the first is new again
+  -- where steps alone come after the last line nothing is being collected, so that to a Ready sign a number that isn't known begins
+  pub collects-nothing : (r : R) → Good (u .holds r) → (mid : ℕ) (x : Sent) (xs : List Sent) (k : ℕ) → Came u mid (x ∷ xs) r → x .events ≡ replicate k step
+      → (id : ℕ) → beginsOf (collectedOf (u .holds (afterAll u mid (x ∷ xs) r))) id ≡ true
+  -- after five lines of different numbers: the last four are known, and the first is new again. That they differ is no limit: each
+  -- was awaited while those before it were known
   pub five : (r : R) → Good (u .holds r) → (mid : ℕ) (a b c d e : Sent) → Came u mid (e ∷ d ∷ c ∷ b ∷ a ∷ []) r
       → differOf (idsIn (e ∷ d ∷ c ∷ b ∷ a ∷ [])) ≡ true
       → Late u mid (afterAll u mid (e ∷ d ∷ c ∷ b ∷ a ∷ []) r) (idsIn (e ∷ d ∷ c ∷ b ∷ [])) (a .id)

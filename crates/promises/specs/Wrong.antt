@@ -25,7 +25,7 @@ use Rattle.loops.specs.Token.{Part, act, rep, close, forever, again, Tok, good,
 use Rattle.course.specs.Steps.{saysOf, setsOf, saidAt}
 use Rattle.course.specs.Tree.{Block, stop, one, loop, treeOf, treeIn}
 use Rattle.course.specs.Price.{scans, millis, leavesOf, priceOf}
-use Rattle.completed.specs.Completed.{noneOf as noCompleted, lastOf, hasOf}
+use Rattle.completed.specs.Completed.{idsOf, noneOf as noCompleted, lastOf, isAmong, hasOf}
 use Rattle.completed.specs.declared.Completed.{Completed}
 use Rattle.collect.specs.Slots.{heldOf, sameOf}
 use Rattle.room.specs.Room.{roomOf}
@@ -260,12 +260,45 @@ knowing d s = record { completed = d; slots = s .slots; room = s .room; run = s 
 abbrev pub recalling : (Completed → Completed) → Heard Sign → Heard Sign
 recalling f h = record { told = h .told; next = knowing (f (h .next .completed)) (h .next); body = h .body }
 
+-- the rule of version 1.2: the newest completed number alone is known
+abbrev pub newestAlone : Completed → Completed
+newestAlone d = when (eqb (d .count) 0) d (record { count = 1; ids = lastOf d ∷ 0 ∷ 0 ∷ 0 ∷ [] })
+
+abbrev pub narrow : Calls Sign
+narrow = receiving (λ s mid b. ours .receive (knowing (newestAlone (s .completed)) s) mid b)
+
 -- a sign that remembers three completed numbers
 abbrev pub threeOf : Completed → Completed
 threeOf d = when (ltb 3 (d .count)) (record { count = 3; ids = take 3 (d .ids) ++ (0 ∷ []) }) d
 
 abbrev pub brief : Calls Sign
 brief = receiving (λ s mid b. recalling threeOf (ours .receive s mid b))
+
+-- a sign that forgets no completed number but by a reset of its own
+pub record Hoarded : Type 0 where
+  pub sign : Sign
+  pub older : List ℕ
+
+abbrev pub isOld : Reading → List ℕ → Bool
+isOld Query older = false
+isOld Reset older = false
+isOld (Normal id total position len) older = isAmong id older
+isOld (Refused n) older = false
+
+abbrev pub hoarding : Calls Hoarded
+hoarding =
+    works (ours .forecast) (λ x. x .sign) (record { sign = ours .power; older = [] })
+    (λ x mid b.
+    when (isOld (readOf mid b) (x .older)) (stays x (outcomeTold Repeat))
+    (record {
+      told = ours .receive (x .sign) mid b .told;
+      next = record { sign = ours .receive (x .sign) mid b .next; older = idsOf (x .sign .completed) ++ x .older };
+      body = ours .receive (x .sign) mid b .body;
+    }))
+    (λ x. record { told = ours .step (x .sign) .told; next = record { sign = ours .step (x .sign) .next; older = x .older } })
+    (λ x. record { told = ours .clear (x .sign) .told; next = record { sign = ours .clear (x .sign) .next; older = [] } })
+    (λ x. ours .reply (x .sign))
+    (λ x. ours .copy (x .sign))
 
 -- a sign that forgets the completed numbers on a query
 abbrev pub onQuery : Reading → Heard Sign → Heard Sign
@@ -305,7 +338,7 @@ deaf =
     receiving
     (λ s mid b. when (eqb (s .run .len) 0 and eqb (ours .read mid b .number) 5) (ours .receive s (getD b 0 0) b) (ours .receive s mid b))
 
--- a sign that refuses a packet out of order, but for one of the number just completed
+-- a sign that refuses a packet out of order, but for one of a completed number
 abbrev pub inOrder : Sign → Reading → Heard Sign → Heard Sign
 inOrder s (Normal id total position len) h =
     when (hasOf (s .completed) id or eqb position (when (beginsOf (collectedOf s) id) 0 (heldOf (s .slots .lens)))) h (stays s (no 13))
@@ -353,7 +386,7 @@ sulks (NoProgram n p) t = t
 abbrev pub sulking : Calls Sign
 sulking = stepping (λ s. record { told = sulks (judgeOf (runningBody s)) (ours .step s .told); next = ours .step s .next })
 
--- a Ready sign that forgets the completed number when it is stepped
+-- a Ready sign that forgets the completed numbers when it is stepped
 abbrev pub drowsy : Calls Sign
 drowsy =
     stepping

@@ -1,4 +1,4 @@
-// Whether unused room holds zeros, of a body and of the packets collected: rule R5.
+// Whether unused room holds zeros, of a body, of the packets collected and of the completed IDs: rule R5.
 ghost use mathlib.Core.Path.{_≡_};
 ghost use lib.Dec.{eqb};
 ghost use lib.ListN.{drop};

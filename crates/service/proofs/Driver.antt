@@ -26,7 +26,7 @@ use Rattle.hear.specs.Join.{slotOf}
 use Rattle.sign.specs.Join.{staysOf, storesOf, releaseOf, releasedOf, countedOf, placedOf, goesOn, joinOf}
 use Rattle.sign.specs.Receive.{heardOf, receiveOf}
 use Rattle.sign.specs.Step.{stepOf}
-use Rattle.service.specs.Driver.{movesOf, completesOf, Event, step, bytes, afterEvents, saidEvents, afterSteps, saidSteps, stepsIn, Undisturbed}
+use Rattle.service.specs.Driver.{movesOf, movesCompleted, Event, step, bytes, afterEvents, saidEvents, afterSteps, saidSteps, stepsIn, Undisturbed}
 use Rattle.sign.specs.declared.Sign.{Sign}
 use Rattle.sign.specs.declared.Received.{Received}
 use Rattle.sign.specs.declared.Cleared.{Cleared}
@@ -96,17 +96,17 @@ receive-stays s mid b =
     counted c false e = moved e
 
 -- whatever comes, but for a reset and a release, leaves the completed IDs
-pub receive-completed : (s : Sign) (mid : ℕ) (b : List ℕ) → completesOf (receiveOf s mid b .outcome) ≡ false
+pub receive-completed : (s : Sign) (mid : ℕ) (b : List ℕ) → movesCompleted (receiveOf s mid b .outcome) ≡ false
     → receiveOf s mid b .sign .completed ≡ s .completed
 unfolding staysOf releaseOf
 receive-completed s mid b =
-    receive-any s (λ r. completesOf (r .outcome) ≡ false → r .sign .completed ≡ s .completed) (λ o e. refl)
+    receive-any s (λ r. movesCompleted (r .outcome) ≡ false → r .sign .completed ≡ s .completed) (λ o e. refl)
     (λ c. counted c (leb (c .total) (heldOf (c .lens))))
     (λ e. moved e)
     mid
     b
   where
-    counted : (c : Collection) (t : Bool) → completesOf (when t (releasedOf s c) (storesOf s c) .outcome) ≡ false
+    counted : (c : Collection) (t : Bool) → movesCompleted (when t (releasedOf s c) (storesOf s c) .outcome) ≡ false
         → when t (releasedOf s c) (storesOf s c) .sign .completed ≡ s .completed
     counted c true e = moved e
     counted c false e = refl

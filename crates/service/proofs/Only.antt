@@ -11,7 +11,7 @@ use borrow.Author.Tests.{eqb-true, eqb-false}
 use Rattle.perform.specs.declared.settings.Settings.{Settings}
 use Rattle.completed.specs.Completed.{idsOf}
 use Rattle.completed.specs.declared.Completed.{Completed}
-use Rattle.completed.proofs.Laws.{one-completed}
+use Rattle.completed.proofs.Laws.{same-completed}
 use Rattle.collect.specs.Slots.{Collection, slotsIn, packetsOf}
 use Rattle.collect.specs.declared.Slots.{Slots}
 use Rattle.room.proofs.Unused.{all-zeros}
@@ -63,7 +63,7 @@ module _ (s t : Sign) (g : Good s) (h : Good t) (a : Alike s t) where
   -- equal IDs, in order, are the same completed IDs
   one-memory : s .completed ≡ t .completed
   one-memory =
-      one-completed (s .completed) (t .completed) (sound-parts s (g .sound) .completed) (sound-parts t (h .sound) .completed) (g .roomy .ids)
+      same-completed (s .completed) (t .completed) (sound-parts s (g .sound) .completed) (sound-parts t (h .sound) .completed) (g .roomy .ids)
       (h .roomy .ids)
       (a .ids)
 

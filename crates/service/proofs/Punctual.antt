@@ -27,7 +27,7 @@ use Rattle.machine.proofs.Sounds.{ready-anywhere}
 use Rattle.machine.proofs.Lines.{LineEnds, line-ends}
 use Rattle.service.specs.Driver.{Event, afterSteps, saidSteps, stepsIn, Undisturbed}
 use Rattle.service.specs.Punctual.{OnTime}
-use Rattle.sign.specs.Step.{roomAfter, stepOf}
+use Rattle.sign.specs.Step.{roomAfter, runsOf, stepOf}
 use Rattle.sign.specs.declared.Sign.{Sign}
 use Rattle.sign.specs.declared.Stepped.{Stepped}
 use Rattle.service.proofs.Driver.{driver-after, driver-said}
@@ -98,10 +98,17 @@ pub steps-good : (n : ℕ) (s : Sign) → Good s → Good (afterSteps n s)
 steps-good zero s g = g
 steps-good (suc n) s g = steps-good n (stepOf s .sign) (step-good s g)
 
--- and leave the completed IDs
+-- and leave what a record has beside its room and its run
+steps-leave : {A : Type 0} (f : Sign → A) → ((s : Sign) (x : Run) → f (runsOf s x) ≡ f s) → (n : ℕ) (s : Sign) → Good s → f (afterSteps n s) ≡ f s
+steps-leave f same zero s g = refl
+steps-leave f same (suc n) s g =
+    steps-leave f same n (stepOf s .sign) (step-good s g) ∙ ap (λ (r : Stepped). f (r .sign)) (sound-steps s (g .sound)) ∙ same s _
+
 pub steps-completed : (n : ℕ) (s : Sign) → Good s → afterSteps n s .completed ≡ s .completed
-steps-completed zero s g = refl
-steps-completed (suc n) s g = steps-completed n (stepOf s .sign) (step-good s g) ∙ ap (λ (r : Stepped). r .sign .completed) (sound-steps s (g .sound))
+steps-completed = steps-leave (λ s. s .completed) (λ s x. refl)
+
+pub steps-slots : (n : ℕ) (s : Sign) → Good s → afterSteps n s .slots ≡ s .slots
+steps-slots = steps-leave (λ s. s .slots) (λ s x. refl)
 
 after-next : (n : ℕ) (s : Sign) → afterSteps (suc n) s ≡ stepOf (afterSteps n s) .sign
 after-next zero s = refl

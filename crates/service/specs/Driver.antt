@@ -1,5 +1,6 @@
 -- What may happen to a record between power-on and power-off: steps, and bytes off the line, in any order.
--- The driver's wish: a line that has started runs to its end, once. J4, J5, J8, J13 and N0 say what changes nothing.
+-- The driver's wish: a line that has started runs to its end, once. J4, J5, J8, J13 and N0 say what changes nothing, J10
+-- and J14 what changes the completed IDs.
 use Prim.Native.Nat.{ℕ, zero, suc}
 use mathlib.Core.List.{List, [], _∷_}
 use mathlib.Core.Path.{_≡_}
@@ -23,13 +24,13 @@ movesOf (Released v) = true
 movesOf (Refused n) = false
 
 -- whether an outcome may come with other completed IDs: a reset and a release alone
-abbrev pub completesOf : Outcome → Bool
-completesOf Query = false
-completesOf Reset = true
-completesOf Repeat = false
-completesOf Stored = false
-completesOf (Released v) = true
-completesOf (Refused n) = false
+abbrev pub movesCompleted : Outcome → Bool
+movesCompleted Query = false
+movesCompleted Reset = true
+movesCompleted Repeat = false
+movesCompleted Stored = false
+movesCompleted (Released v) = true
+movesCompleted (Refused n) = false
 
 -- a step, or bytes
 pub data Event : Type 0 where

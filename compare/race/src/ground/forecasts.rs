@@ -32,7 +32,7 @@ pub const GROUNDS: [Ground; 25] = [
         |case, after| did(after, 0) && last_in_loop(case, Kind::P, |passes| passes > 1)),
     ground("pace set before a loop, another in it", FORECASTS,
         |case, after| did(after, 0) && changes(case, Kind::P, |one, other| one.is_none() && other.is_some())),
-    ground("pace set in a loop, another behind it", FORECASTS,
+    ground("pace set in a loop, another after it", FORECASTS,
         |case, after| did(after, 0) && changes(case, Kind::P, |one, other| one.is_some() && other.is_none())),
     ground("pace set in a loop, another in the same loop", FORECASTS,
         |case, after| did(after, 0) && changes(case, Kind::P, |one, other| one.is_some() && one == other)),
@@ -43,7 +43,7 @@ pub const GROUNDS: [Ground; 25] = [
         |case, after| did(after, 0) && last_in_loop(case, Kind::Equals, |passes| passes > 1)),
     ground("scan setting set before a loop, another in it", FORECASTS,
         |case, after| did(after, 0) && changes(case, Kind::Equals, |one, other| one.is_none() && other.is_some())),
-    ground("scan setting set in a loop, another behind it", FORECASTS,
+    ground("scan setting set in a loop, another after it", FORECASTS,
         |case, after| did(after, 0) && changes(case, Kind::Equals, |one, other| one.is_some() && other.is_none())),
     ground("scan setting set in a loop, another in the same loop", FORECASTS,
         |case, after| did(after, 0) && changes(case, Kind::Equals, |one, other| one.is_some() && one == other)),
@@ -54,7 +54,7 @@ pub const GROUNDS: [Ground; 25] = [
         |case, _| place(case) == 0 && length(case) <= case.bytes.len()),
     ground("stretch up to the body's last byte", REPEATS,
         |case, _| place(case) > 0 && length(case) > 0 && end(case) == Some(case.bytes.len())),
-    ground("empty stretch right behind the body", REPEATS,
+    ground("empty stretch right after the body", REPEATS,
         |case, _| place(case) > 0 && length(case) == 0 && end(case) == Some(case.bytes.len())),
     ground("stretch one byte over the body's end", REPEATS,
         |case, _| place(case) > 0 && length(case) > 0 && end(case) == Some(case.bytes.len() + 1)),
@@ -112,7 +112,7 @@ fn length(case: &Case) -> usize {
     case.numbers[1]
 }
 
-/// The place behind a stretch, if there is one.
+/// The place after a stretch, if there is one.
 fn end(case: &Case) -> Option<usize> {
     place(case).checked_add(length(case))
 }

@@ -48,6 +48,6 @@ abbrev pub differOf : List ℕ → Bool
 differOf [] = true
 differOf (id ∷ ids) = leb id 0x3F and not (isAmong id ids) and differOf ids
 
--- none to four, all different, and zeros in the room of the others
+-- none to four, all different, and zeros in place of those that are missing
 unfoldable pub soundOf : Completed → Bool
 soundOf d = leb (d .count) 4 and differOf (idsOf d) and zerosOf (drop (d .count) (d .ids))

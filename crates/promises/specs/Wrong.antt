@@ -274,7 +274,7 @@ threeOf d = when (ltb 3 (d .count)) (record { count = 3; ids = take 3 (d .ids) +
 abbrev pub brief : Calls Sign
 brief = receiving (λ s mid b. recalling threeOf (ours .receive s mid b))
 
--- a sign that forgets no completed number but by a reset of its own
+-- a sign that forgets no completed number, but by the call that resets
 pub record Hoarded : Type 0 where
   pub sign : Sign
   pub older : List ℕ

@@ -1,3 +1,5 @@
+#![tactic(auto)]
+
 // The forecast tried against plain runs of steps, on bodies that a small generator makes.
 //   make     bodies of commands, loops and endings in a random order
 //   race     a forecast and a run of steps side by side

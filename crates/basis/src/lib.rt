@@ -1,3 +1,5 @@
+#![tactic(auto)]
+
 // Definitions and laws that every other crate cites; no code.
 //   specs/Choice    a choice by a Bool, `and`, `or`, a range, for lists of decisions in order      N0, J3
 //   specs/Rows      a table of refusals, of which the first that applies is given                  N0

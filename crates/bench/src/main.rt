@@ -1,3 +1,5 @@
+#![tactic(auto)]
+
 // The bench (P5): the examples of the rules that have no star, but those of J and R, which `bus` has, and every forecast, by the public calls, a line each.
 // The file stdout is written from the rules.
 //   carry      how many packets a body takes

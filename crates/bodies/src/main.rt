@@ -1,3 +1,5 @@
+#![tactic(auto)]
+
 // Bodies, texts and places tried against the rules (section L, S15 to S17, R7, R8). Each line of the file stdin says
 // what is tried, and each line of the file stdout, written by hand from the rules, what the library must answer.
 //   lines      a line taken apart: `j` judge, `w` widths, `r` read a command, `s` where a place stands; a place of two digits;

@@ -1,3 +1,5 @@
+#![tactic(auto)]
+
 // A day on the bus. Each line of the file stdin says what happens to one sign (MID 80h, but for lines with `m`), and each line of the file
 // stdout, written by hand from the rules (W8, W10, J3 to J16, R2, R4, R5, S1 to S13, S28 to S30), what it must answer.
 //   lines  a line taken apart: `r` bytes received, in hexadecimal; `m` a MID that the sign is set to, and bytes received by it; `s` a step;

@@ -1,3 +1,5 @@
+#![tactic(auto)]
+
 // The calls for C: numbers and lent bytes, one function for each public call, as include/yurodekapi.h describes them.
 // No call has a `requires`: each answers for any numbers and any bytes. A call on a sign goes by the record in the image: 251 for an
 // image of another size, 16 for an unsound record, 19 for a forbidden MID, 252 for an answer that is too short, then the method of

@@ -1,3 +1,5 @@
+#![tactic(auto)]
+
 // The packets that a sign has collected of a transmission (J1): a slot for each position, and what makes them sound.
 // The data stand in a room beside the slots, which is lent.
 //   sound    which slots obey the packet rules, and how many are held     R4, R5, W5

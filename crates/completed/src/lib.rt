@@ -1,3 +1,5 @@
+#![tactic(auto)]
+
 // The IDs that a sign has completed since its reset, the last four of them (J1; C-23).
 //   known  which are Repeats, which is told as the last, and one more      J4, J10, J14, J15, W10
 //   sound  which of these parts of a record are sound                      R2, R5

@@ -1,3 +1,5 @@
+#![tactic(auto)]
+
 // The course of a running program: definitions and the theorem of demand 3, and no code.
 //   specs/Steps     a state and what one step makes of it: places, open loops, counts           S1, S6 to S13
 //   specs/Tree      the same program unrolled: a loop as `L`, then n times its commands and `E`   S22, S23, L28

@@ -1,3 +1,5 @@
+#![tactic(auto)]
+
 // The forecast program (S31): a body on standard input, nothing stripped, at pace 4 and one scan. It writes the totals
 // and `end ready`, `end never`, or `refused N at P`.
 use libc::{STDIN_FILENO, STDOUT_FILENO};

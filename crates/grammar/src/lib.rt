@@ -1,3 +1,5 @@
+#![tactic(auto)]
+
 // What a program is, apart from how it is judged: definitions and the laws that `judge` keeps to them, and no code.
 //   specs/Grammar     the bodies that are programs                       L1, L2, L25 to L29
 //   specs/Reach       how far judging gets, and the first refusal        L29, N0, N21 to N28

@@ -1,3 +1,5 @@
+#![tactic(auto)]
+
 // What bytes off the line make of the packets that a sign has collected (J3). Of the record it has the completed
 // IDs, the slots and the room, and of the running program the length alone, 0 when Ready. The crate `sign` has it whole.
 //   frame    completed IDs, slots and room, sound beside a body      R2, R4, R5, R7

@@ -1,3 +1,5 @@
+#![tactic(auto)]
+
 // A whole body judged (L29): accepted, endless or not (L28), or refused with a number and a place (N21 to N28).
 // No public call has a `requires`: each answers for any bytes and any place.
 //   walk    the commands from the left, and a place among them      L26, L28, N0, N26, R7, R8

@@ -1,3 +1,5 @@
+#![tactic(auto)]
+
 // One command judged among those before it, and the rule of loops. No public call has a `requires`: each answers for
 // any command, any place and any loop.
 //   structure  the rule of loops, 26, and which loop stands open       L25 to L27, N26

@@ -1,3 +1,5 @@
+#![tactic(auto)]
+
 // A running program: its place and one step of it. The crate `reckon` forecasts all its steps.
 //   sound    which runs are sound                                  R3, R5 to R8
 //   steps    one step: a command performed and the next run        S1, S6 to S13, N16

@@ -1,3 +1,5 @@
+#![tactic(auto)]
+
 // A text measured in columns. No call has a `requires`; each answers for any bytes and any widths.
 //   fonts      the font in force, and which bytes of a text are shown                              S15
 //   width      the two widths of a text, alone or in a body; whether it fits; where it starts      S15 to S17

@@ -1,3 +1,5 @@
+#![tactic(auto)]
+
 // The wire: one packet written. The crate `transmission` writes all packets of a body, `reader` reads packets, and
 // `reply` writes and reads the sign's answer.
 //   mid     the MIDs that no sign may have                                                  W8, N19

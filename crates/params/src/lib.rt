@@ -1,3 +1,5 @@
+#![tactic(auto)]
+
 // What follows the letters of a command (L3): a text or a number, read from a place of a body. No public call
 // has a `requires`; each answers for any bytes and any place.
 //   bytes      the byte at a place, and the letters of a pair           L2, L5

@@ -1,3 +1,5 @@
+#![tactic(auto)]
+
 // The command language: one command read at a place of a body. The crate `params` reads what follows its letters,
 // `measure` measures a text, and `judge` judges a whole body. No call has a `requires`; each answers for any bytes and
 // any place.

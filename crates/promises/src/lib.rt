@@ -1,3 +1,5 @@
+#![tactic(auto)]
+
 // The promises, each as a statement over any message unit that a person who knows the rules can read, and their proofs;
 // no code.
 //   specs/Unit      all public calls of a unit, in the rules' numbers, and ours   P13

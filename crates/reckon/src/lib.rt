@@ -1,3 +1,5 @@
+#![tactic(auto)]
+
 // The forecast of a program (S22), and the pace and the scans that it leaves, which the next forecast needs (S32).
 // No call has a `requires`; each answers for any bytes, pace and scans.
 //   reckon   one command added, a loop's passes, and the forecast   S22, S23, S25, S27, N17

@@ -1,3 +1,5 @@
+#![tactic(auto)]
+
 // The sign's reply to a query, written for the sign and read for the sender. No call has a `requires`: each answers for
 // any bytes.
 //   letters  the last ID that a sign can say, its MID turned, its two letters   W10, W11

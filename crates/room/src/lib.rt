@@ -1,3 +1,5 @@
+#![tactic(auto)]
+
 // Whether unused room holds zeros, of a body, of the packets collected and of the completed IDs: rule R5.
 ghost use Rattle.std.specs.Prelude.{◌≡◌, eqb, drop};
 ghost use Rattle.basis.specs.Choice.{◌and◌};

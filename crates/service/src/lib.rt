@@ -1,3 +1,5 @@
+#![tactic(auto)]
+
 // The sign's record over many calls: definitions and theorems, and no code.
 //   specs/Delivery  the packets of a body received in order             demand 2; J9 to J12
 //   specs/Driver    steps, and bytes off the line, in any order         the driver's wish; J4, J5, J10, J13, J14

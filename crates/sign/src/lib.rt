@@ -1,3 +1,5 @@
+#![tactic(auto)]
+
 // The sign's record (J1): each call takes it whole and hands back the next one with its answer (J2, P7).
 // No public call has a `requires`: each answers for any record and any bytes, 16 for an unsound record before all else.
 //   sound    which records are sound                               R1 to R9

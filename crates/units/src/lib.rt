@@ -1,3 +1,5 @@
+#![tactic(auto)]
+
 // Steps, shifts, scans and milliseconds (S14): one tuple struct a unit, with its own sum and its own conversion to the
 // next (P11). A sum or a product past 64 bits stays at the greatest number.
 //   capped   the sum and the product that stay at the greatest number

@@ -1,3 +1,5 @@
+#![tactic(auto)]
+
 // What C is told: an answer as words of four bytes at the front of a lent buffer, and the result that a call returns. No call has a
 // `requires`: a refusal writes nothing, and neither is anything written into an answer that is too short, which is 252.
 //   laying    words of four bytes, lowest first, in a row

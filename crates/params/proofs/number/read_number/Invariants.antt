@@ -1,0 +1,12 @@
+-- `params::number::read_number` meets its contract. The invariant: the digits passed made the value, it is not over `hi`, and
+-- they are not more than `most`. The measure is what is left of the body.
+use Prim.Native.Nat.{◌+◌, ◌-◌, ◌≤◌}
+use lib.ListN.{length}
+use Rattle.params.proofs.Numbers.{Passed}
+use Rattle.params.proofs.number.read_number.Given as goal
+
+abbrev pub invariant-loop-place : goal.invariant-loop-place
+invariant-loop-place l = (l.from ≤ l.at) × (l.at ≤ l.from + l.most) × (l.value ≤ l.hi) × Passed l.body l.from l.at l.value
+
+abbrev pub decreases-loop-place : goal.decreases-loop-place
+decreases-loop-place l = length l.body - l.at

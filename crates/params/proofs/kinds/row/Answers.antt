@@ -8,6 +8,6 @@ use Rattle.params.proofs.kinds.row.Goals as goal
 
 pub returns-in_default : goal.returns-in_default
 returns-in_default c =
-    let g = not_below 31 c.args.n c.in_default.in_default-own in
+    let g = not_below 31 c.args.n c.in_default.in_default-own.rest in
     let e : c.args.n ≡ 31 = last_row c.args.n g c.requires in
     sym (ap (λ (n : ℕ). get_or kind_rows n 0) e)

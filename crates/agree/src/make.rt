@@ -1,7 +1,7 @@
 // Bodies in a random order: most are programs, some are refused.
 
 // A body so far, and how many of its bytes are used.
-#[derive(Drop)]
+#[derive(Clone, Copy)]
 pub struct Made {
     pub body: [u8; 84],
     pub len: usize,

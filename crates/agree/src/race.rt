@@ -25,7 +25,7 @@ fn with(totals: Totals, answer: Answer) -> Totals {
 }
 
 // What a run comes to within so many steps: its totals, the settings that it leaves, and whether it is Ready.
-#[derive(Drop)]
+#[derive(Clone, Copy)]
 pub struct Ran {
     pub totals: Totals,
     pub left: Settings,

@@ -13,7 +13,7 @@ pub use sound::held;
 
 // The ID being collected with the lengths of its packets: `total` 0 is none, a length of 0 a position that isn't held. The data of
 // position p stand in the room from byte 14 p on.
-#[derive(Drop)]
+#[derive(Clone, Copy)]
 pub struct Slots {
     pub id: u8,
     pub total: u8,

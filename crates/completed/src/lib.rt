@@ -10,7 +10,7 @@ mod sound;
 pub use known::none;
 
 // How many there are, and the IDs, the newest first. Room for IDs that aren't there holds zeros; 0 is an ID too.
-#[derive(Drop)]
+#[derive(Clone, Copy)]
 pub struct Completed {
     pub count: u8,
     pub ids: [u8; 4],

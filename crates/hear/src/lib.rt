@@ -17,7 +17,7 @@ use judge::Verdict;
 
 // What a sign makes of the bytes that came: the number for no, or what they were. A body released comes with its verdict, and
 // stands in the room.
-#[derive(Drop)]
+#[derive(Clone, Copy)]
 pub enum Outcome {
     Query,
     Reset,
@@ -28,7 +28,7 @@ pub enum Outcome {
 }
 
 // The outcome, with the completed IDs and the slots as they are after it. Of a body released `len` is the length.
-#[derive(Drop)]
+#[derive(Clone, Copy)]
 pub struct Heard {
     pub outcome: Outcome,
     pub completed: Completed,

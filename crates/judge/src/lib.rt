@@ -18,14 +18,14 @@ use program::{Command, Reading};
 pub use whole::judge;
 
 // A body's front: its commands can be judged, or it is refused before them.
-#[derive(Drop)]
+#[derive(Clone, Copy)]
 pub enum Opening {
     Begun,
     Refused(u8, usize),
 }
 
 // A body judged: it comes to an end, it never does, or it is refused by a number and a place.
-#[derive(Drop)]
+#[derive(Clone, Copy)]
 pub enum Verdict {
     Finite,
     Endless,
@@ -34,7 +34,7 @@ pub enum Verdict {
 
 // Where a place stands in a body: at no command of an accepted one, outside loops, or inside the loop with this place
 // behind its `L` and this number.
-#[derive(Drop)]
+#[derive(Clone, Copy)]
 pub enum Standing {
     Nowhere,
     Outside,
@@ -42,7 +42,7 @@ pub enum Standing {
 }
 
 // A body's commands walked: the verdict on them, where the place looked for stands, and what was read there if it stands anywhere.
-#[derive(Drop)]
+#[derive(Clone, Copy)]
 struct Walked {
     verdict: Verdict,
     found: Standing,
@@ -50,7 +50,7 @@ struct Walked {
 }
 
 // A place looked for: at no command of an accepted body, or where it stands with the command there.
-#[derive(Drop)]
+#[derive(Clone, Copy)]
 pub enum Found {
     Nowhere,
     At(Standing, Command),

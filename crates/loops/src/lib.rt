@@ -12,7 +12,7 @@ pub use single::turned;
 pub use structure::role as role_of;
 
 // What a command does to the structure of a program: nothing, opens a loop, or one of the three ends.
-#[derive(Drop)]
+#[derive(Clone, Copy)]
 pub enum Role {
     Plain,
     Repeat,
@@ -22,7 +22,7 @@ pub enum Role {
 }
 
 // An open loop: the place of its `L`, the place behind it, and its number.
-#[derive(Drop)]
+#[derive(Clone, Copy)]
 pub struct Open {
     pub caret: usize,
     pub behind: usize,
@@ -30,7 +30,7 @@ pub struct Open {
 }
 
 // Where judging stands: outside loops, within one, or behind an `F` or `R`.
-#[derive(Drop)]
+#[derive(Clone, Copy)]
 pub enum Flow {
     Free,
     Within(Open),
@@ -38,14 +38,14 @@ pub enum Flow {
 }
 
 // What the rule of loops says of a command: it may not stand there, or how judging goes on.
-#[derive(Drop)]
+#[derive(Clone, Copy)]
 pub enum Rule {
     Broken,
     Kept(Flow),
 }
 
 // One command judged: the refusal and its place, or the place behind it and how judging goes on.
-#[derive(Drop)]
+#[derive(Clone, Copy)]
 pub enum Turn {
     Stop(u8, usize),
     Next(usize, Flow),

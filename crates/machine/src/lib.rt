@@ -11,14 +11,14 @@ mod steps;
 use perform::{Performed, Settings};
 
 // The open loop: the place behind its `L` and the count left, both 0 outside loops.
-#[derive(Drop)]
+#[derive(Clone, Copy)]
 pub struct Loop {
     pub place: usize,
     pub left: u8,
 }
 
 // The running body's length and the place in it, the open loop, and the settings. A length of 0 is Ready.
-#[derive(Drop)]
+#[derive(Clone, Copy)]
 pub struct Run {
     pub len: usize,
     pub place: usize,
@@ -27,7 +27,7 @@ pub struct Run {
 }
 
 // What a step answers: a command performed, Idle, or the number for no.
-#[derive(Drop)]
+#[derive(Clone, Copy)]
 pub enum Answer {
     Did(Performed),
     Idle,
@@ -35,7 +35,7 @@ pub enum Answer {
 }
 
 // A step's answer with the run after it.
-#[derive(Drop)]
+#[derive(Clone, Copy)]
 pub struct Stepped {
     pub run: Run,
     pub answer: Answer,

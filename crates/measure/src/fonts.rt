@@ -3,7 +3,7 @@ ghost use Rattle.std.specs.Prelude.{◌≡◌};
 ghost use Rattle.measure.specs.Width.{font_of, switched_of};
 
 // The columns of a font's characters, and how many of them are blank, on the right.
-#[derive(Drop)]
+#[derive(Clone, Copy)]
 pub struct Font {
     pub columns: usize,
     pub blank: usize,

@@ -13,14 +13,14 @@ const COLUMNS: usize = 96;
 const WIDEST: usize = 1000;
 
 // The widths of a text in columns: all that it takes, and without the blank edge behind what it shows last.
-#[derive(Drop)]
+#[derive(Clone, Copy)]
 pub struct Widths {
     pub whole: usize,
     pub lit: usize,
 }
 
 // A text measured up to a place: the font in force, the byte before, the columns so far, and the blank edge so far.
-#[derive(Drop)]
+#[derive(Clone, Copy)]
 pub struct Measured {
     pub font: Font,
     pub last: u8,

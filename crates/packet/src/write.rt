@@ -10,7 +10,7 @@ use crate::mid::forbidden;
 use crate::sum::negated;
 
 // How many bytes were written, or the number for no.
-#[derive(Drop)]
+#[derive(Clone, Copy)]
 pub enum Written {
     Wrote(usize),
     Refused(u8),

@@ -17,7 +17,7 @@ pub use number::read_number;
 pub use text::read_text;
 
 // A parameter read: the place behind it and its number (0 of a text or nothing), or the refusal and its place.
-#[derive(Drop)]
+#[derive(Clone, Copy)]
 pub enum Parameter {
     Right(usize, usize),
     Wrong(u8, usize),

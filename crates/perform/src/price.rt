@@ -8,7 +8,7 @@ use program::Kind;
 use units::{Millis, Scans, Shifts};
 
 // What one step answers: kind, number as written, text place and length, start column, scans, milliseconds.
-#[derive(Drop)]
+#[derive(Clone, Copy)]
 pub struct Performed {
     pub kind: Kind,
     pub number: u8,
@@ -20,7 +20,7 @@ pub struct Performed {
 }
 
 // What a command does that takes time: it shows a text in so many scans, streams one, waits, or none of these.
-#[derive(Drop)]
+#[derive(Clone, Copy)]
 pub enum Doing {
     Shows(u8),
     Streams,

@@ -12,7 +12,7 @@ mod table;
 pub use reader::read_command;
 
 // The sixteen commands, by their letters; `Scans` is `=`.
-#[derive(Drop)]
+#[derive(Clone, Copy)]
 pub enum Kind {
     II,
     IA,
@@ -33,7 +33,7 @@ pub enum Kind {
 }
 
 // What follows a command's letters: a text, nothing, or a number with its least and greatest value and its most digits.
-#[derive(Drop)]
+#[derive(Clone, Copy)]
 pub enum Form {
     Text,
     Bare,
@@ -41,14 +41,14 @@ pub enum Form {
 }
 
 // The row of the table that a command's letters name, with how many bytes the caret and the letters take.
-#[derive(Drop)]
+#[derive(Clone, Copy)]
 pub enum Row {
     Known(Kind, Form, usize),
     Unknown,
 }
 
 // One command: `next` is the place behind it; what it lacks is 0.
-#[derive(Drop)]
+#[derive(Clone, Copy)]
 pub struct Command {
     pub next: usize,
     pub number: usize,
@@ -58,7 +58,7 @@ pub struct Command {
 }
 
 // What stands at a place: a good command, or the refusal and its place.
-#[derive(Drop)]
+#[derive(Clone, Copy)]
 pub enum Reading {
     Good(Command),
     Refused(u8, usize),

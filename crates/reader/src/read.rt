@@ -5,7 +5,7 @@ ghost use Rattle.reader.specs.Read.{fields_of, lowest_of, read_of};
 use packet::{forbidden, sum_of};
 
 // What a sign reads off the bytes that came.
-#[derive(Drop)]
+#[derive(Clone, Copy)]
 pub enum Reading {
     Query,
     Reset,

@@ -17,7 +17,7 @@ use perform::{Settings, perform};
 use program::{Command, Kind, Reading, read_command};
 
 // How far a program is reckoned: the place, the settings there, and the totals so far.
-#[derive(Drop)]
+#[derive(Clone, Copy)]
 pub struct Reckoned {
     pub place: usize,
     pub settings: Settings,
@@ -117,7 +117,7 @@ pub(crate) fn later(body: &[u8], start: Reckoned, first: Reckoned) -> Totals
 
 // What is told of a program beforehand: the totals until it is Ready, and the pace and the scans that it leaves; that it never is; or
 // the refusal and its place.
-#[derive(Drop)]
+#[derive(Clone, Copy)]
 pub enum Foretold {
     Ends(Totals, u8, u8),
     Endless,

@@ -17,7 +17,7 @@ use perform::{Settings, perform};
 use program::{Kind, Reading, read_command};
 
 // How far a walk has come: what is reckoned since the last `L` or the start, the settings behind that `L`, and the totals up to it.
-#[derive(Drop)]
+#[derive(Clone, Copy)]
 pub struct Sums {
     pub at: Reckoned,
     pub entry: Settings,

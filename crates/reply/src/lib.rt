@@ -13,7 +13,7 @@ pub use hears::read_reply;
 pub use lays::write_reply;
 
 // What the sender hears of a sign: last completed ID, Busy or Ready, AUX sunk or floating.
-#[derive(Drop)]
+#[derive(Clone, Copy)]
 pub enum Status {
     Heard { last: u8, busy: bool, sink: bool },
     Refused(u8),

@@ -20,7 +20,7 @@ use machine::{Answer, Run};
 
 // The record: completed IDs, the slots of the packets being collected, one room, and the running program with the settings. The
 // room holds the packets' data while Ready and the running body while Busy: Busy collects nothing, and Ready has no body.
-#[derive(Drop)]
+#[derive(Clone, Copy)]
 pub struct Sign {
     pub completed: Completed,
     pub slots: Slots,
@@ -29,7 +29,7 @@ pub struct Sign {
 }
 
 // The record after a receive, its outcome, and the body that was released: `len` bytes of it, zeros after them.
-#[derive(Drop)]
+#[derive(Clone, Copy)]
 pub struct Received {
     pub sign: Sign,
     pub outcome: Outcome,
@@ -38,14 +38,14 @@ pub struct Received {
 }
 
 // The record after a reset, and whether the record was sound.
-#[derive(Drop)]
+#[derive(Clone, Copy)]
 pub struct Cleared {
     pub sign: Sign,
     pub outcome: Outcome,
 }
 
 // The record after a step, and the step's answer.
-#[derive(Drop)]
+#[derive(Clone, Copy)]
 pub struct Stepped {
     pub sign: Sign,
     pub answer: Answer,

@@ -6,7 +6,7 @@ mod adding;
 
 use units::{Millis, Scans, Steps};
 
-#[derive(Drop)]
+#[derive(Clone, Copy)]
 pub struct Totals {
     pub steps: Steps,
     pub scans: Scans,

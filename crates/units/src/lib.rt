@@ -10,16 +10,16 @@ mod capped;
 
 use capped::{capped_product, capped_sum};
 
-#[derive(Drop)]
+#[derive(Clone, Copy)]
 pub struct Steps(pub u64);
 
-#[derive(Drop)]
+#[derive(Clone, Copy)]
 pub struct Shifts(pub u64);
 
-#[derive(Drop)]
+#[derive(Clone, Copy)]
 pub struct Scans(pub u64);
 
-#[derive(Drop)]
+#[derive(Clone, Copy)]
 pub struct Millis(pub u64);
 
 impl Steps {

@@ -11,7 +11,7 @@ use Rattle.measure.specs.Edge.{Edged}
 use Rattle.measure.specs.declared.width.Measured.{Measured}
 use Rattle.measure.specs.declared.width.Widths.{Widths}
 use Rattle.measure.proofs.Nexts.{at_letter, at_tilde, at_graphic}
-use Rattle.measure.proofs.Widths.{text_fair, with_last}
+use Rattle.measure.proofs.Columns.{text_fair, with_last}
 
 pub edged : (s : List ℕ) → Edged (widths_of s)
 edged s =

@@ -1,4 +1,4 @@
 pub mod Edges
 pub mod Nexts
 pub mod Same
-pub mod Widths
+pub mod Columns

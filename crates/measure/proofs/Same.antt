@@ -11,7 +11,7 @@ use Rattle.measure.specs.Width.{font, font_of, measured, with_byte, with_all, me
 use Rattle.measure.specs.Before.{font_columns, columns_before, each_before, width_from, width_before}
 use Rattle.measure.specs.declared.fonts.Font.{Font}
 use Rattle.measure.specs.declared.width.Measured.{Measured}
-use Rattle.measure.proofs.Widths.{with_last, with_by}
+use Rattle.measure.proofs.Columns.{with_last, with_by}
 
 -- a font's columns
 either : (t : Bool) (f g : Font) (a b : ℕ) → f.columns ≡ a → g.columns ≡ b → (when t f g).columns ≡ when t a b

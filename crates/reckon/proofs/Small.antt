@@ -13,7 +13,7 @@ use Rattle.measure.specs.Width.{fits_of}
 use Rattle.measure.specs.declared.width.Widths.{Widths}
 use Rattle.program.specs.declared.Kind.{Kind}
 use Rattle.program.specs.declared.Kind.TheVariants.{II, IA, IB, S, L, E, F, R, XS, XF, P, Scans, W, XD, XB, Y}
-use Rattle.measure.proofs.Widths.{whole_most}
+use Rattle.measure.proofs.Columns.{whole_most}
 use Rattle.perform.specs.Price.{doing_of, streams_of, acts_of, shifts_of, scans_of, millis_of, answer_of}
 use Rattle.perform.specs.Settings.{sound_of as settings_sound}
 use Rattle.perform.specs.declared.price.Doing.{Doing}

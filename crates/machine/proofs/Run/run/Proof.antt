@@ -1,7 +1,7 @@
 -- `run` performs the command at its place.
 use native.Mathlib.Omega.{arith}
 use mathlib.Core.Path.{◌∙◌}
-use Rattle.measure.proofs.Widths.{part_all}
+use Rattle.measure.proofs.Columns.{part_all}
 use Rattle.machine.proofs.Commands.{number_byte}
 use Rattle.machine.proofs.Moves.{ran_good}
 use Rattle.machine.proofs.Sounds.{held_most}

@@ -1,7 +1,7 @@
 -- `added` performs the command at the place and adds its cost.
 use mathlib.Core.Path.{◌∙◌}
 use native.Mathlib.Omega.{arith}
-use Rattle.measure.proofs.Widths.{part_all}
+use Rattle.measure.proofs.Columns.{part_all}
 use Rattle.machine.proofs.Commands.{number_byte}
 use Rattle.reckon.proofs.Reckons.{added_is}
 use borrow.Author.Rules.{rules}

@@ -1,7 +1,7 @@
 -- `summed` adds the command and takes what it leaves.
 use mathlib.Core.Path.{sym, ap, ◌∙◌}
 use native.Mathlib.Omega.{arith}
-use Rattle.measure.proofs.Widths.{part_all}
+use Rattle.measure.proofs.Columns.{part_all}
 use Rattle.machine.proofs.Commands.{number_byte}
 use Rattle.reckon.specs.Reckon.{plain_of}
 use Rattle.reckon.proofs.Reckons.{added_is, pass_stops}

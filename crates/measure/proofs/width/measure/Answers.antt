@@ -5,7 +5,7 @@ use borrow.Author.Rules.{rules}
 use Rattle.measure.specs.Width.{measured, with_all, measured_of}
 use Rattle.measure.specs.Capped.{topped_of}
 use Rattle.measure.specs.declared.fonts.Font.{Font}
-use Rattle.measure.proofs.Widths.{Fair, start_fair, text_fair, all_end, goes_on_lem, counted_is}
+use Rattle.measure.proofs.Columns.{Fair, start_fair, text_fair, all_end, goes_on_lem, counted_is}
 use Rattle.measure.proofs.width.measure.Goals as goal
 
 pub loop-at-init : goal.loop-at-init

@@ -5,7 +5,7 @@ use mathlib.Core.Path.{◌≡◌}
 use lib.ListN.{length, drop}
 use Rattle.measure.specs.Width.{with_all, measured_of}
 use Rattle.measure.specs.Capped.{most, topped_of}
-use Rattle.measure.proofs.Widths.{Fair}
+use Rattle.measure.proofs.Columns.{Fair}
 use Rattle.measure.proofs.width.measure.Given as goal
 
 abbrev pub invariant-loop-at : goal.invariant-loop-at

@@ -6,7 +6,7 @@ use native.Mathlib.Omega.{arith}
 use lib.ListN.{length, take, drop}
 use borrow.Author.Rules.{rules}
 use Rattle.measure.specs.Width.{widths_of, counted_of}
-use Rattle.measure.proofs.Widths.{part_none, part_rest}
+use Rattle.measure.proofs.Columns.{part_none, part_rest}
 use Rattle.measure.proofs.width.measure_at.Goals as goal
 
 pub returns-then-body-place : goal.returns-then-body-place

@@ -18,7 +18,7 @@ pub(crate) fn load(image: &[u8]) -> Sign
     ensures { result ≡ record_of image.now }
 {
     let mut held = [0; SIZE];
-    bytes::copy(image, &mut held);
+    held.copy_from_slice(image);
     record_of(held)
 }
 
@@ -28,7 +28,7 @@ pub(crate) fn store(sign: Sign, image: &mut [u8])
     ensures { image.new ≡ image_of sign }
 {
     let held = image_of(sign);
-    bytes::copy(&held, image);
+    image.copy_from_slice(&held);
 }
 
 // Why a call on a sign is refused whose answer is too short: 16 for an unsound record, else the number that comes after it.

@@ -46,8 +46,8 @@ fn fill(room: &mut [u8], position: usize, part: &[u8])
     ensures { room.new ≡ laid (take (14 * position) room.old ++ part.now) room.old }
 {
     let at = 14 * position;
-    let to = at + 14;
-    bytes::copy(part, &mut room[at..to]);
+    let to = at + part.len();
+    room[at..to].copy_from_slice(part);
 }
 
 // The data take their free position.

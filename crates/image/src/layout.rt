@@ -15,9 +15,9 @@ pub fn record_of(image: [u8; 106]) -> Sign
     let mut ids = [0; 4];
     let mut lens = [0; 6];
     let mut room = [0; 84];
-    bytes::copy(&image[1..5], &mut ids);
-    bytes::copy(&image[7..13], &mut lens);
-    bytes::copy(&image[13..97], &mut room);
+    ids.copy_from_slice(&image[1..5]);
+    lens.copy_from_slice(&image[7..13]);
+    room.copy_from_slice(&image[13..97]);
     let len = image[97] as usize;
     let place = image[98] as usize;
     let behind = image[99] as usize;
@@ -79,8 +79,8 @@ pub fn image_of(sign: Sign) -> [u8; 106]
     image[103] = settings.sink;
     image[104] = settings.dim;
     image[105] = settings.bright;
-    bytes::copy(&room, &mut image[13..97]);
-    bytes::copy(&lens, &mut image[7..13]);
-    bytes::copy(&ids, &mut image[1..5]);
+    image[13..97].copy_from_slice(&room);
+    image[7..13].copy_from_slice(&lens);
+    image[1..5].copy_from_slice(&ids);
     image
 }

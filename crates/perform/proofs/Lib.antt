@@ -1,3 +1,3 @@
-pub mod Answers
+pub mod Answered
 pub mod Lasts
 pub mod Same

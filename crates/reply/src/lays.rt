@@ -22,7 +22,7 @@ fn lay_reply(mid: u8, last: u8, busy: bool, sink: bool, out: &mut [u8]) -> Writt
     let state = state_letter(busy);
     let aux = aux_letter(sink);
     let front = [from, 0x7f, 8, last, state, aux];
-    bytes::copy(&front, out);
+    out[..6].copy_from_slice(&front);
     out[6] = 0;
     out[7] = checksum(&front);
     Written::Wrote(8)

@@ -32,7 +32,7 @@ impl Sign {
         if out.len() < len {
             return Written::Refused(34);
         }
-        bytes::copy(&room[..len], out);
+        out[..len].copy_from_slice(&room[..len]);
         Written::Wrote(len)
     }
 }

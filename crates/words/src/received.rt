@@ -88,6 +88,7 @@ pub fn tell_received(outcome: Outcome, body: &[u8; 84], len: usize, answer: &mut
         &[code, program_no(outcome), program_at(outcome), len as u64],
         answer,
     );
-    bytes::copy(body, &mut answer[16..]);
+    let end = 16 + body.len();
+    answer[16..end].copy_from_slice(body);
     0
 }

@@ -1,0 +1,29 @@
+-- `lay_reply` copies six bytes and seals them.
+use borrow.Author.Rules.{rules}
+use mathlib.Core.Path.{sym, ◌∙◌}
+use Rattle.basis.proofs.Tests.{tests}
+use Rattle.packet.specs.Wire.{reply_of}
+use Rattle.reply.proofs.Laying.{reply_wrote}
+use Rattle.reply.proofs.lays.lay_reply.Goals as goal
+
+pub returns-then-not-is_last : goal.returns-then-not-is_last
+returns-then-not-is_last c = search (tests, sym c.is_last.ensures ∙ c.if-not-is_last.true)
+
+pub returns-then-out-lt8 : goal.returns-then-out-lt8
+unfolding reply_of
+returns-then-out-lt8 c = search (tests, sym c.is_last.ensures ∙ c.if-not-is_last.false)
+
+pub returns : goal.returns
+returns c = let a = c.args in
+    let known = sym c.is_last.ensures ∙ c.if-not-is_last.false in
+    reply_wrote a.mid a.last a.busy a.sink a.out.now c.copy.new.1.0 c.turned_mid-from.result
+    c.state_letter-state.result
+    c.aux_letter-aux.result
+    c.checksum.result
+    known
+    (search rules)
+    c.turned_mid-from.ensures
+    c.state_letter-state.ensures
+    c.aux_letter-aux.ensures
+    c.copy.ensures.1
+    c.checksum.ensures

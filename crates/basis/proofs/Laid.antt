@@ -82,3 +82,14 @@ laid_push p o v h =
     laid_at (length p) (v ∷ []) (laid p o) fits
     ∙ ap (λ (q : List ℕ). laid (q ++ v ∷ []) (laid p o)) (take_laid p o)
     ∙ laid_over (p ++ v ∷ []) p o (omega (arith, length-append p (v ∷ [])))
+
+-- a part of a buffer that was lent and came back as `q`, with what stands before it, is laid
+pub laid_copied : (at to : ℕ) (q o y : List ℕ) → to ≡ at + length q → to ≤ length o → y ≡ q
+    → take at o ++ (y ++ drop (to - at) (drop at o)) ≡ laid (take at o ++ q) o
+unfolding laid
+laid_copied at to q o y e fits ey =
+    let short : at ≤ length o = omega arith in
+    let n : at + (to - at) ≡ length (take at o ++ q) = omega (arith, length-append (take at o) q, length-take-le at o short) in
+    ap (λ (r : List ℕ). take at o ++ (r ++ drop (to - at) (drop at o))) ey
+    ∙ ap (λ (r : List ℕ). take at o ++ (q ++ r)) (drop-drop (to - at) at o ∙ ap (λ (m : ℕ). drop m o) n)
+    ∙ sym (append_assoc (take at o) q (drop (length (take at o ++ q)) o))

@@ -40,7 +40,7 @@ module _ (g : ℕ → Tok) (len : ℕ) where
       let less : k ≤ length xs = omega arith in
       ap (λ (x : Said). x ∷ answers_of g len k (next_of g len (at p fs σ))) (said_is c p fs σ e)
       ∙ ap (λ (s : State). did (says_of c σ) ∷ answers_of g len k s) (next_is c p fs σ e)
-      ∙ ap (λ (ys : List Said). did (says_of c σ) ∷ ys) (runs_first r k less)
+      ∙ ap (λ (ys : List Said). did (says_of c σ) ∷ ys) (runs_first {s = goes_of len c p fs σ} r k less)
 
   -- before that the sign is Busy
   pub runs_busy : {s t : State} {xs : List Performed} → Runs g len s xs t → (k : ℕ) → k < length xs → Busy (after_of g len k s)

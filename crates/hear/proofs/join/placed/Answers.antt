@@ -39,7 +39,7 @@ pub returns : goal.returns
 returns c = let a = c.args in
     let k = collection_of a.slots a.room.now in
     let x = c.fill.new.room in
-    let l : length a.slots.lens ≡ 6 = search (rules, c.well-formed.1.0) in
+    let l : length a.slots.lens ≡ 6 = search (rules, c.well_formed.1.0) in
     let r : length a.room.now ≡ 84 = search rules in
     let n : Collection = record { id = a.slots.id; total = a.slots.total; lens = set a.slots.lens a.position (length a.part.now); room = x } in
     let e = stored_is k a.position a.part.now x c.fill.ensures in

@@ -1,6 +1,5 @@
 -- `lay_reply` copies six bytes and seals them.
-use borrow.Author.Rules.{rules}
-use mathlib.Core.Path.{sym, ◌∙◌}
+use Rattle.std.proofs.Common.{ℕ, List, ◌++◌, drop, sym, ap, ◌∙◌, rules}
 use Rattle.basis.proofs.Tests.{tests}
 use Rattle.packet.specs.Wire.{reply_of}
 use Rattle.reply.proofs.Laying.{reply_wrote}
@@ -16,7 +15,7 @@ returns-then-out-lt8 c = search (tests, sym c.is_last.ensures ∙ c.if-not-is_la
 pub returns : goal.returns
 returns c = let a = c.args in
     let known = sym c.is_last.ensures ∙ c.if-not-is_last.false in
-    reply_wrote a.mid a.last a.busy a.sink a.out.now c.copy.new.1.0 c.turned_mid-from.result
+    reply_wrote a.mid a.last a.busy a.sink a.out.now _ c.turned_mid-from.result
     c.state_letter-state.result
     c.aux_letter-aux.result
     c.checksum.result
@@ -25,5 +24,5 @@ returns c = let a = c.args in
     c.turned_mid-from.ensures
     c.state_letter-state.ensures
     c.aux_letter-aux.ensures
-    c.copy.ensures.1
+    (ap (λ (q : List ℕ). q ++ drop 6 a.out.now) c.copy_from_slice.ensures.after)
     c.checksum.ensures

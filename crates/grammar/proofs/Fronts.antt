@@ -21,6 +21,7 @@ pub data Front (q : ℕ) : ℕ → List Part → Type 0 where
 
 -- a front is a caret
 pub front_caret : {b : List ℕ} {p : ℕ} {cs : List Part} (q : ℕ) → Tiled b p cs → Front q p cs → get_or b q 0 ≡ caret
+front_caret {b = b} q (done {p = p} _) x = elim x [ ]
 front_caret {b} {p} q (more {c = c} e t) (here h) = ap (λ (k : ℕ). get_or b k 0) (sym h) ∙ get_caret b p c e
 front_caret q (more e t) (later f) = front_caret q t f
 

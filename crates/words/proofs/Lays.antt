@@ -5,7 +5,7 @@ use mathlib.Core.Path.{◌≡◌, refl, sym, ap, ◌∙◌}
 use mathlib.Core.Bool.{Bool, true, false}
 use native.Mathlib.Omega.{arith}
 use native.Mathlib.Numerals.{add-one}
-use lib.ListN.{length, take, drop, get_or}
+use lib.ListN.{length, take, drop, get_or, length-append}
 use lib.Seq.{take_all, take-suc, length-take-le}
 use lib.Dec.{ltb, eqb}
 use mir.Val.{bool_byte}
@@ -14,7 +14,7 @@ use borrow.Rule.Slice.PartMut.{put_mid}
 use Rattle.basis.specs.Bytes.{laid}
 use Rattle.basis.specs.Told.{Told, flag_of}
 use Rattle.basis.proofs.Choices.{when_true, when_false}
-use Rattle.basis.proofs.Laid.{laid_lent, length_laid}
+use Rattle.basis.proofs.Laid.{laid_lent, laid_copied, length_laid, take_laid, laid_over}
 use Rattle.words.specs.Words.{word_of, words_of, result_of}
 use Rattle.hear.specs.Hear.{told_of}
 use Rattle.hear.specs.declared.Outcome.{Outcome}
@@ -121,20 +121,24 @@ pub received_lays : (o : Outcome) (body : List ℕ) (len : ℕ) (answer f y : Li
     → q ≡ program_of o
     → r ≡ place_of o
     → f ≡ told_in 16 (words_of (p ∷ q ∷ r ∷ len ∷ [])) answer
-    → y ≡ take (length body) body ++ drop (length body) (take (length f - 16) (drop 16 f))
-    → put_mid 16 (length f - 16) f y ≡ told_in 100 (received_bytes o body len) answer
-unfolding laid
-received_lays o body len answer f y p q r room ep yes' eq er ef ey =
+    → length body ≡ 84 → y ≡ body
+    → put_mid 16 84 f y ≡ told_in 100 (received_bytes o body len) answer
+received_lays o body len answer f y p q r room ep yes' eq er ef size ey =
     let ws = p ∷ q ∷ r ∷ len ∷ [] in
     let us = outcome_of o ∷ program_of o ∷ place_of o ∷ len ∷ [] in
     let same : ws ≡ us = rw (ep, eq, er) in
-    let whole : length body ≤ length body = omega arith in
     let at : 16 ≡ length (words_of ws) = sym (words_length ws) in
     let fits : length (words_of ws) ≤ length answer = omega arith in
     let some : 16 ≤ length answer = omega arith in
     let told : words_of us ++ body ≡ received_bytes o body len = sym (when_false (eqb (outcome_of o) 0) [] (words_of us ++ body) (ne_eqb (outcome_of o) 0 (λ z. yes' (ep ∙ z)))) in
-    laid_lent 16 (words_of ws) body answer f y at fits (ef ∙ sym (told_room 16 (words_of ws) answer some))
-    (ey ∙ ap (λ (b : List ℕ). b ++ drop (length body) (take (length f - 16) (drop 16 f))) (take_all (length body) body whole))
+    let fl : f ≡ laid (words_of ws) answer = ef ∙ sym (told_room 16 (words_of ws) answer some) in
+    let enough : 100 ≤ length f = omega (arith, ap length fl ∙ length_laid (words_of ws) answer fits) in
+    let less : length (words_of ws) ≤ length (words_of ws ++ body) = omega (arith, length-append (words_of ws) body) in
+    laid_copied 16 100 body f y (omega arith) enough ey
+    ∙ ap (λ (x : List ℕ). laid (take 16 x ++ body) x) fl
+    ∙ ap (λ (n : ℕ). laid (take n (laid (words_of ws) answer) ++ body) (laid (words_of ws) answer)) at
+    ∙ ap (λ (x : List ℕ). laid (x ++ body) (laid (words_of ws) answer)) (take_laid (words_of ws) answer)
+    ∙ laid_over (words_of ws ++ body) (words_of ws) answer less
     ∙ ap (λ (v : List ℕ). laid (words_of v ++ body) answer) same
     ∙ ap (λ (x : List ℕ). laid x answer) told
     ∙ told_room 100 (received_bytes o body len) answer room

@@ -1,5 +1,5 @@
 -- `copy_body` copies what the room holds of a running body; a sound run's body lies within it.
-use Rattle.std.proofs.Common.{◌≡◌, ℕ, List, ◌++◌, length, take, drop, sym, ap, ◌∙◌}
+use Rattle.std.proofs.Common.{◌≡◌, ℕ, List, ◌++◌, length, take, drop, sym, ap, ◌∙◌, arith, rules}
 use lib.Seq.{take-length, length-take-le}
 use Rattle.machine.specs.Sound.{body_of}
 use Rattle.sign.proofs.Sounds.{body_fits}
@@ -14,6 +14,13 @@ pub returns-then-out-len : goal.returns-then-out-len
 returns-then-out-len c = let a = c.args in
     let e = sym c.sound.ensures ∙ c.if-not-sound.false in
     short_tells a.self a.out.now e (body_fits a.self e) c.if-out-len.true
+
+pub slice_bounds-room-end : goal.slice_bounds-room-end
+slice_bounds-room-end c =
+    let a = c.args in
+    let e = sym c.sound.ensures ∙ c.if-not-sound.false in
+    let l : length a.self.room ≡ 84 = search rules in
+    omega (arith, body_fits a.self e)
 
 pub slice_bounds-copy_from_slice-end-3 : goal.slice_bounds-copy_from_slice-end-3
 slice_bounds-copy_from_slice-end-3 c =

@@ -1,0 +1,10 @@
+-- `bodies::show::bytes` ends: what is left of the body falls.
+use Prim.Native.Nat.{◌-◌}
+use lib.ListN.{length}
+use Rattle.bodies.proofs.show.bytes.Given as goal
+
+abbrev pub invariant-loop-at : goal.invariant-loop-at
+invariant-loop-at l = Unit {0}
+
+abbrev pub decreases-loop-at : goal.decreases-loop-at
+decreases-loop-at l = length l.body - l.at

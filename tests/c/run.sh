@@ -3,7 +3,7 @@
 # Both must make the same checks. The one line that is printed has their number.
 set -euo pipefail
 cd "$(dirname "$0")/../.."
-rt staticlib cabi > /dev/null
+bash tools/archive.sh > /dev/null
 archive=target/staticlib/libcabi.a
 warnings=(-Wall -Wextra -Wconversion -Wpedantic -Werror)
 mkdir -p target/c

@@ -11,7 +11,7 @@ use lib.ListN.{length, get_or, take, drop, replicate, length-append, length-drop
 use lib.Seq.{length-take-le, drop-drop}
 use borrow.Author.Tests.{eqb-true, le-leb, lt-leb, ne_eqb, eq-eqb}
 use Rattle.basis.specs.Bytes.{laid}
-use Rattle.basis.specs.Choice.{when, ◌and◌, ◌or◌}
+use Rattle.basis.specs.Choice.{when, ◌or◌}
 use Rattle.basis.proofs.Choices.{and_parts, when_true, when_false}
 use Rattle.room.specs.Room.{zeros_of}
 use Rattle.room.proofs.Unused.{all_zeros}

@@ -2,16 +2,15 @@
 use Prim.Native.Nat.{ℕ, zero, suc, ◌+◌, ◌-◌, ◌*◌, ◌≤◌, ◌<◌}
 use mathlib.Core.List.{List, [], ◌∷◌, ◌++◌}
 use mathlib.Core.Bool.{Bool, true}
-use mathlib.Core.Path.{◌≡◌, refl, sym, ap, ◌∙◌}
+use mathlib.Core.Path.{◌≡◌, sym, ap, ◌∙◌}
 use native.Mathlib.Omega.{arith}
-use lib.Dec.{eqb}
 use lib.ListN.{length, get_or, take, drop, set, length-drop}
 use lib.Seq.{drop-append_seam, drop-append-le, take-append-le, drop-drop, drop_at, take-take, length-take-le}
 use borrow.Author.Tests.{ne_eqb}
 use Rattle.basis.specs.Bytes.{laid}
-use Rattle.basis.specs.Choice.{when, ◌and◌}
+use Rattle.basis.specs.Choice.{when}
 use Rattle.basis.proofs.Bytes.{drop_take}
-use Rattle.basis.proofs.Choices.{and_true, and_parts}
+use Rattle.basis.proofs.Choices.{and_true}
 use Rattle.room.specs.Room.{zeros_of}
 use Rattle.room.proofs.Unused.{zeros_drop}
 use Rattle.collect.specs.Slots.{rule_of, one_of, held_of, slots_of}

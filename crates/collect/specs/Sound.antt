@@ -1,5 +1,5 @@
 -- Which collections are sound, part by part: rules R4 and R5.
-use Rattle.std.specs.Prelude.{ℕ, Bool, not, eqb, ltb, leb}
+use Rattle.std.specs.Prelude.{Bool, not, eqb, ltb, leb}
 use Rattle.basis.specs.Choice.{when, ◌and◌}
 use Rattle.room.specs.Room.{zeros_of}
 use Rattle.completed.specs.Completed.{has_of}

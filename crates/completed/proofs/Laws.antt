@@ -10,14 +10,14 @@ use lib.Dec.{eqb, ltb, leb}
 use lib.ListN.{length, take, drop, replicate, length-drop, take-append-drop}
 use lib.Seq.{take-take, take_all, length-take-le}
 use borrow.Author.Tests.{eq-eqb, le-leb, leb-true, lt-ltb, le-ltb}
-use Rattle.basis.specs.Choice.{when, ◌and◌, ◌or◌}
+use Rattle.basis.specs.Choice.{◌and◌, ◌or◌}
 use Rattle.basis.proofs.Bytes.{drop_take}
 use Rattle.basis.proofs.Choices.{and_parts, and_true, when_true, when_false}
 use Rattle.room.specs.Room.{zeros_of}
 use Rattle.room.proofs.Unused.{all_zeros, zeros_take}
 use Rattle.completed.specs.Completed.{ids_of, newest_of, is_among, more_of, differ_of, none_of, last_of, has_of, added_of, sound_of}
 use Rattle.completed.specs.declared.Completed.{Completed}
-use Rattle.completed.proofs.Lists.{among_take, differ_take}
+use Rattle.completed.proofs.Lists.{differ_take}
 
 -- none are sound, and no ID is one of them
 pub none_sound : sound_of none_of ≡ true

@@ -1,12 +1,12 @@
 -- Endless programs perform their rounds: the first answers of the steps are the first of what the rounds perform, however many are asked for.
 use Prim.Native.Nat.{ℕ, zero, suc, ◌+◌, ◌≤◌}
 use mathlib.Core.List.{List, [], ◌∷◌, ◌++◌, map, append_assoc}
-use mathlib.Core.Path.{◌≡◌, refl, sym, subst}
+use mathlib.Core.Path.{◌≡◌, subst}
 use native.Mathlib.Omega.{arith}
 use lib.ListN.{length, take, length-append}
 use Rattle.perform.specs.declared.settings.Settings.{Settings}
 use Rattle.perform.specs.declared.price.Performed.{Performed}
-use Rattle.loops.specs.Token.{Part, rep, forever, again, Tok, good, get}
+use Rattle.loops.specs.Token.{Part, rep, forever, again, Tok, get}
 use Rattle.judge.specs.Verdict.{judge_of}
 use Rattle.judge.specs.declared.Verdict.TheVariants.{Endless}
 use Rattle.course.specs.Steps.{frame, State, settle, did, says_of, answers_of, started}

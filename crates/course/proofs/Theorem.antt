@@ -12,7 +12,7 @@ use Rattle.loops.specs.Token.{Part, act, rep, close, forever, again, good, get}
 use Rattle.judge.specs.Verdict.{judge_of}
 use Rattle.judge.specs.declared.Verdict.TheVariants.{Finite, Endless}
 use Rattle.loops.proofs.Tokens.{get_two, get_within}
-use Rattle.course.specs.Steps.{frame, State, ready, at, settle, did, Busy, says_of, after_of, answers_of, started}
+use Rattle.course.specs.Steps.{frame, State, ready, settle, did, Busy, says_of, after_of, answers_of, started}
 use Rattle.course.specs.Tree.{Block, stop, one, loop, Ending, ends, starts, ever, exit_of, unrolled, flat, flat_end, tree_in}
 use Rattle.course.specs.Price.{sum_by, ones, price_of}
 use Rattle.course.proofs.Accepts.{shape}

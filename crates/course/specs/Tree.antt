@@ -1,6 +1,6 @@
 -- A program as a tree of commands and loops, built from its commands, and what it unrolls to.
 -- Rules S22 and S23: a plain command once; a loop as `L`, then n times its commands and `E`. Endless: L28, S9 and S10.
-use Rattle.std.specs.Prelude.{ℕ, zero, suc, ◌+◌, List, [], ◌∷◌, ◌++◌}
+use Rattle.std.specs.Prelude.{ℕ, zero, suc, List, [], ◌∷◌, ◌++◌}
 use Rattle.perform.specs.declared.settings.Settings.{Settings}
 use Rattle.perform.specs.declared.price.Performed.{Performed}
 use Rattle.loops.specs.Token.{Act, Part, act, rep, close, forever, again, Tok, good, bad, tokens_of}

@@ -1,11 +1,10 @@
 -- Bytes that come to a sound frame are judged by what is read of them.
 use Prim.Native.Nat.{ℕ}
 use mathlib.Core.List.{List}
-use mathlib.Core.Bool.{Bool, true, false}
+use mathlib.Core.Bool.{true, false}
 use mathlib.Core.Path.{◌≡◌, sym, ap, ◌∙◌}
 use lib.Dec.{eqb}
 use borrow.Author.Tests.{eq-eqb}
-use Rattle.basis.specs.Choice.{when, ◌and◌}
 use Rattle.basis.proofs.Choices.{when_true, when_false, and_parts}
 use Rattle.completed.specs.Completed.{sound_of as completed_sound}
 use Rattle.completed.specs.declared.Completed.{Completed}

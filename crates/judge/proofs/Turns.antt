@@ -7,13 +7,13 @@ use native.Mathlib.Omega.{arith}
 use borrow.Author.Tests.{eq-eqb, ne_eqb, ltb-false}
 use lib.Dec.{eqb, ltb}
 use lib.ListN.{length, get_or}
-use Rattle.basis.specs.Choice.{when, ◌and◌}
+use Rattle.basis.specs.Choice.{when}
 use Rattle.params.specs.Bytes.{caret}
 use Rattle.program.specs.declared.Command.{Command}
 use Rattle.program.specs.declared.Reading.{Reading}
 use Rattle.program.specs.declared.Reading.TheVariants.{Good, Refused as Wrong}
 use Rattle.loops.specs.Token.{Part, act, rep, close, forever, again, Tok, good, bad, size_of, get, chain, tokens_of}
-use Rattle.loops.specs.Structure.{Structure, broken, kept, structure_of, role_in, opened, go, moved, move_of}
+use Rattle.loops.specs.Structure.{Structure, broken, kept, structure_of, role_in, opened, moved, move_of}
 use Rattle.loops.specs.Flow.{room_of, ended_of, opens_of, turn_of}
 use Rattle.judge.specs.Verdict.{end_of, judge, commands_of, front_of, judge_of}
 use Rattle.judge.specs.Standing.{inside_of, stood, stand_at, or_else, of_accepted, placed_of}

@@ -1,7 +1,7 @@
 -- A whole body judged (L29), endless or not (L28). The order is that of N0: N28, N21, the commands, and last an `L`
 -- that is not closed (N26).
 use Rattle.std.specs.Prelude.{ℕ, List, [], ◌∷◌, Bool, true, false, eqb, ltb, length, get_or}
-use Rattle.basis.specs.Choice.{when, ◌and◌}
+use Rattle.basis.specs.Choice.{when}
 use Rattle.basis.specs.Told.{Told, yes, no_at}
 use Rattle.params.specs.Bytes.{caret}
 use Rattle.loops.specs.Token.{Tok, tokens_of}

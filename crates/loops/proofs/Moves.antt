@@ -18,8 +18,8 @@ use Rattle.program.specs.declared.Reading.TheVariants.{Good, Refused}
 use Rattle.basis.proofs.Choices.{and_parts, when_true, when_false}
 use Rattle.program.proofs.Rows.{row_holds}
 use Rattle.program.proofs.Laws.{made, at_least_two, bare_ends}
-use Rattle.loops.specs.Token.{role_of, Tok, good, size_of, part_of, act_of, tok_of, get}
-use Rattle.loops.specs.Structure.{Structure, broken, kept, structure_of, role_in, opened, go, moved, move_of}
+use Rattle.loops.specs.Token.{role_of, Tok, size_of, part_of, act_of, tok_of, get}
+use Rattle.loops.specs.Structure.{Structure, broken, kept, structure_of, role_in, opened, moved, move_of}
 use Rattle.loops.specs.Flow.{room_of, ended_of, opens_of, flow_of, rule_of, turn_of, here_of, turned_of}
 use Rattle.loops.specs.declared.Role.{Role}
 use Rattle.loops.specs.declared.Role.TheVariants.{Plain, Repeat, Close, Forever, Again}

@@ -10,7 +10,7 @@ use lib.Dec.{eqb, ltb, leb}
 use lib.ListN.{length}
 use lib.Seq.{length-take-le}
 use borrow.Author.Tests.{le-leb, lt-leb, eq-eqb, ne_eqb, eqb-true, eqb-false}
-use Rattle.basis.specs.Choice.{when, ◌and◌}
+use Rattle.basis.specs.Choice.{when}
 use Rattle.basis.proofs.Choices.{when_true, when_false, and_parts, and_true, within_parts, within_true}
 use Rattle.perform.specs.Settings.{sound_of as settings_sound}
 use Rattle.perform.specs.declared.settings.Settings.{Settings}

@@ -1,6 +1,6 @@
 -- The blank edge of a text (S15): how wide it can be, when there is none, and that a tilde pair at the end leaves it.
-use Prim.Native.Nat.{ℕ, ◌+◌, ◌-◌, ◌≤◌, min}
-use mathlib.Core.Path.{◌≡◌, refl, sym, ap, ◌∙◌}
+use Prim.Native.Nat.{ℕ, ◌+◌, ◌≤◌, min}
+use mathlib.Core.Path.{◌≡◌, refl, ap, ◌∙◌}
 use mathlib.Core.Bool.{true}
 use mathlib.Core.List.{List, [], ◌∷◌, ◌++◌}
 use native.Mathlib.Omega.{arith}
@@ -9,7 +9,6 @@ use Rattle.params.specs.Bytes.{tilde}
 use Rattle.measure.specs.Width.{measured, with_byte, with_all, measured_of, widths_in, widths_of, widest, counted_of, fits_of}
 use Rattle.measure.specs.Edge.{Edged}
 use Rattle.measure.specs.declared.width.Measured.{Measured}
-use Rattle.measure.specs.declared.width.Widths.{Widths}
 use Rattle.measure.proofs.Nexts.{at_letter, at_tilde, at_graphic}
 use Rattle.measure.proofs.Columns.{text_fair, with_last}
 

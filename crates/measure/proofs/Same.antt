@@ -7,7 +7,7 @@ use native.Mathlib.Omega.{arith}
 use lib.Dec.{eqb, leb}
 use Rattle.basis.specs.Choice.{when}
 use Rattle.params.specs.Bytes.{tilde}
-use Rattle.measure.specs.Width.{font, font_of, measured, with_byte, with_all, measured_of, widths_of}
+use Rattle.measure.specs.Width.{font, font_of, measured, with_byte, with_all, widths_of}
 use Rattle.measure.specs.Before.{font_columns, columns_before, each_before, width_from, width_before}
 use Rattle.measure.specs.declared.fonts.Font.{Font}
 use Rattle.measure.specs.declared.width.Measured.{Measured}

@@ -1,5 +1,5 @@
 -- What holds of the two widths of any bytes, a text or not, counted to the cap or not (S15).
-use Rattle.std.specs.Prelude.{ℕ, ◌+◌, ◌≤◌, ◌≡◌}
+use Rattle.std.specs.Prelude.{◌+◌, ◌≤◌, ◌≡◌}
 use Rattle.measure.specs.declared.width.Widths.{Widths}
 
 -- the lit width is the whole one less 3 columns at most, and the one is 0 exactly if the other is

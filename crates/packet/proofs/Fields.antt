@@ -2,7 +2,7 @@
 use Rattle.std.proofs.Common.{◌≡◌, ℕ, ◌+◌, ◌<◌, ◌≤◌, Bool, true, eqb, ltb, leb, sym, ap, ◌∙◌, arith, ltb-true, lt-ltb, eq-eqb, ne_eqb, eqb-true, le-leb, leb-true}
 use mathlib.Core.Logic.{dite}
 use native.Mathlib.Decide.{dec_lt}
-use Rattle.basis.specs.Choice.{◌and◌, ◌or◌, within}
+use Rattle.basis.specs.Choice.{◌or◌, within}
 use Rattle.basis.proofs.Choices.{and_true, and_parts, within_parts, within_true}
 use Rattle.packet.specs.Write.{right_fields}
 

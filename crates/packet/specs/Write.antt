@@ -2,7 +2,7 @@
 -- buffer (W13 and W15 to W17).
 use Rattle.std.specs.Prelude.{◌≡◌, ℕ, zero, suc, ◌+◌, Bool, ltb, leb, List, [], ◌∷◌, length, nat_eq, nat_le, nat_lt}
 use Rattle.basis.specs.Bytes.{laid}
-use Rattle.basis.specs.Choice.{when, ◌and◌, ◌or◌, within}
+use Rattle.basis.specs.Choice.{◌and◌, ◌or◌, within}
 use Rattle.basis.specs.Rows.{Row, ◌if◌, first_of}
 use Rattle.basis.specs.Told.{Told, yes, no}
 use Rattle.packet.specs.Wire.{total_of, packet_at, transmission_of}

@@ -1,6 +1,6 @@
 -- The refusal is the lowest that applies, for every MID that is not forbidden: a number is given exactly if one applies,
 -- it applies itself, and none below it does. No reply is taken for a packet, whatever the MID.
-use Prim.Native.Nat.{ℕ, zero, suc, ◌/◌, ◌%◌, ◌-◌, ◌≤◌, ◌<◌}
+use Prim.Native.Nat.{ℕ, zero, suc, ◌/◌, ◌%◌, ◌-◌, ◌<◌}
 use mathlib.Core.Path.{◌≡◌, refl, sym, ap, ◌∙◌}
 use mathlib.Core.List.{List, ◌∷◌}
 use mathlib.Core.Bool.{Bool, true, false}

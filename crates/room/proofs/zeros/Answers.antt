@@ -1,4 +1,3 @@
-use Prim.Native.Nat.{◌-◌}
 use borrow.Author.Rules.{rules}
 use Rattle.room.proofs.Blanks.{zero_more, zero_past}
 use Rattle.room.proofs.zeros.Goals as goal

@@ -2,7 +2,6 @@ use borrow.Author.Rules.{rules}
 use Rattle.collect.proofs.Turns.{held_next, held_past, one_most}
 use lib.ListN.{length, get_or}
 use native.Mathlib.Omega.{arith}
-use Prim.Native.Nat.{◌-◌}
 use mathlib.Core.Path.{◌≡◌}
 use Rattle.collect.proofs.sound.held.Goals as goal
 

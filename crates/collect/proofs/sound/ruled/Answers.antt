@@ -2,7 +2,7 @@ use borrow.Author.Rules.{rules}
 use Rattle.collect.proofs.Turns.{rule_most, slot_length, slot_cut, slot_wrong, slot_unclean, slot_next, slots_past}
 use lib.ListN.{length, get_or}
 use native.Mathlib.Omega.{arith}
-use Prim.Native.Nat.{◌-◌, ◌≤◌}
+use Prim.Native.Nat.{◌≤◌}
 use mathlib.Core.Path.{◌≡◌, sym, ◌∙◌}
 use Rattle.collect.proofs.sound.ruled.Goals as goal
 

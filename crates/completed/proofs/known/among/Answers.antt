@@ -1,6 +1,5 @@
 use borrow.Author.Rules.{rules}
 use Rattle.completed.proofs.Lists.{among_here, among_next, among_past}
-use Prim.Native.Nat.{◌-◌}
 use mathlib.Core.Path.{sym, ◌∙◌}
 use Rattle.completed.proofs.known.among.Goals as goal
 

@@ -1,8 +1,6 @@
-use Prim.Native.Nat.{◌-◌}
 use mathlib.Core.Path.{◌≡◌, refl, sym, ap, ◌∙◌}
 use mathlib.Core.Bool.{false}
 use mathlib.Core.List.{[]}
-use mathlib.Core.Logic.{⊎_elim}
 use native.Mathlib.Omega.{arith}
 use Rattle.program.specs.Command.{read_of}
 use Rattle.program.specs.declared.Reading.{Reading}
@@ -47,7 +45,7 @@ loop-at-preserved c = let a = c.args in
     let i = c.if-at-place in (
       sym (on_next b l.at _ l.flow _ h e) ∙ l.invariant.0,
       elim i.branch [
-        then-at-place w ↦ (
+        | then-at-place w ↦ (
           found_here b a.place l.at _ l.flow c.in-Next.then l.found i.found _ h l.invariant.1.0 (omega (arith, w.if-at-place.true)) (w.found-is ∙ w.first-found.ensures ∙ ap (or_else l.found) w.inside.ensures),
           λ z. let q : l.at ≡ a.place = w.if-at-place.true in w.here-is ∙ c.read_command-read.ensures ∙ ap (read_of b) q,
         )
@@ -64,7 +62,10 @@ returns c = let a = c.args in
     let l = c.loop-at in
     let h = c.loop-at-test.false in
     let o = c.over.ensures in
-    let end = sym (on_end b l.at l.flow h) ∙ l.invariant.0 in record { judged = o
+    let end = sym (on_end b l.at l.flow h) ∙ l.invariant.0 in record {
+      judged = o
           ∙ ap (λ (v : Verdict). walked_of v l.found l.here) end
           ∙ ap (λ (s : Standing). walked_of (commands_of b) s l.here) (found_all b a.place l.at l.flow l.found _ h l.invariant.1.0)
-          ∙ ap (walked_of (commands_of b) (stand_at a.place (tokens_of b 0) 1 0 false [])) (sym (ap (λ (w : Walked). w.read) o)); heard = λ z. ap (λ (w : Walked). w.read) o ∙ l.invariant.1.1 (λ u. z (ap (λ (w : Walked). w.found) o ∙ accepted_nowhere (end_of (ended_of l.flow) (opens_of l.flow)) l.found u)) }
+          ∙ ap (walked_of (commands_of b) (stand_at a.place (tokens_of b 0) 1 0 false [])) (sym (ap (λ (w : Walked). w.read) o));
+      heard = λ z. ap (λ (w : Walked). w.read) o ∙ l.invariant.1.1 (λ u. z (ap (λ (w : Walked). w.found) o ∙ accepted_nowhere (end_of (ended_of l.flow) (opens_of l.flow)) l.found u));
+    }

@@ -1,4 +1,4 @@
-use Rattle.std.proofs.Common.{◌-◌, arith, rules}
+use Rattle.std.proofs.Common.{arith, rules}
 use Rattle.basis.proofs.Sums.{sum_next, sum_past}
 use Rattle.packet.proofs.sum.sum_of.Goals as goal
 

@@ -1,4 +1,4 @@
-use Rattle.std.proofs.Common.{ℕ, ◌-◌, ◌<◌, ◌≤◌, List, length, ap, ◌∙◌, arith, length-set, take_all, rules}
+use Rattle.std.proofs.Common.{ℕ, ◌<◌, ◌≤◌, List, length, ap, ◌∙◌, arith, length-set, take_all, rules}
 use Rattle.basis.specs.Bytes.{laid}
 use Rattle.basis.proofs.Sums.{sum_next, sum_past}
 use Rattle.packet.proofs.Laying.{next_laid}

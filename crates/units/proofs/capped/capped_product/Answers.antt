@@ -9,7 +9,7 @@ pub returns-then-b-eq0 : goal.returns-then-b-eq0
 returns-then-b-eq0 c = omega (arith, ap (λ (n : ℕ). c.args.a * n) c.if-b-eq0.true)
 
 pub returns-then-b-a : goal.returns-then-b-a
-returns-then-b-a c =     omega (arith, product_past c.args.a c.args.b c.if-b-eq0.false c.if-b-a.true)
+returns-then-b-a c = omega (arith, product_past c.args.a c.args.b c.if-b-eq0.false c.if-b-a.true)
 
 pub overflow_mul-result : goal.overflow_mul-result
 overflow_mul-result c = omega (arith, product_fits c.args.a c.args.b c.if-b-eq0.false c.if-b-a.false)

@@ -1,6 +1,6 @@
 /* Yurodekapi for C, version 1.3: the calls of the message unit over numbers and lent bytes.
  *
- * Language. C99 or later, or C++11 or later. Link with target/staticlib/libcabi.a, which `rt staticlib cabi` writes.
+ * Language. C99 or later, or C++11 or later. Link with target/staticlib/libcabi.a, which tools/archive.sh writes.
  *
  * Results. Every call answers for all inputs. It returns a result of 32 bits: the number for no in its low byte (0 is yes), and a value
  * above it. yd_no and yd_value read the two. A yes of a writer has the length in the value; a no of 21 to 28 has the place there; where
@@ -21,7 +21,7 @@
  * images may be used at once.
  *
  * Needs. memcpy is all that the archive imports. It has constants and no other static data, allocates nothing, and knows no clock. The
- * deepest call is yd_receive: 1096 bytes of stack on x86-64; docs/PRICES.md has every call.
+ * deepest call is yd_receive: 1336 bytes of stack on x86-64; docs/PRICES.md has every call.
  */
 #ifndef YURODEKAPI_H
 #define YURODEKAPI_H

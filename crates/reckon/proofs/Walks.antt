@@ -30,7 +30,6 @@ use Rattle.reckon.specs.Forecast.{prices_of, by_verdict, foretold_of}
 use Rattle.reckon.specs.Reckon.{added_of, pass_of, later_of, entry_of, closed_of, taken_of, summed_of, Counts, Passing}
 use Rattle.reckon.specs.declared.reckon.Reckoned.{Reckoned}
 use Rattle.reckon.specs.declared.walk.Sums.{Sums}
-use Rattle.reckon.specs.declared.reckon.Foretold.TheVariants.{Ends}
 use Rattle.reckon.proofs.Reckons.{stands_good}
 use Rattle.reckon.proofs.Wholes.{stride_at, looped_of, turn_of, Left, turn_keeps, left_none, left_all}
 

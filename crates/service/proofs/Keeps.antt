@@ -5,9 +5,9 @@ use mathlib.Core.Bool.{Bool, true, false, not}
 use mathlib.Core.Path.{◌≡◌, refl, sym, ap, ◌∙◌, subst}
 use native.Mathlib.Omega.{arith}
 use lib.Dec.{eqb, leb}
-use lib.ListN.{length, get_or, set, take, drop, replicate, length-set, length-append, length-drop}
+use lib.ListN.{length, get_or, take, drop, replicate, length-set, length-append, length-drop}
 use lib.Seq.{length-take-le}
-use borrow.Author.Tests.{le-leb, leb-false, eqb-true, eqb-false}
+use borrow.Author.Tests.{leb-false, eqb-true, eqb-false}
 use Rattle.basis.specs.Choice.{when, ◌and◌, ◌or◌, within}
 use Rattle.basis.proofs.Choices.{and_parts, when_true}
 use Rattle.basis.proofs.Laid.{length_laid}

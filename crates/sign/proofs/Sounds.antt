@@ -1,11 +1,11 @@
 -- The parts of a sound record, and a sound record made of them.
 use mathlib.Core.Bool.{Bool, true, false}
-use mathlib.Core.Path.{◌≡◌, refl, sym, ap, ◌∙◌}
+use mathlib.Core.Path.{◌≡◌, refl, sym, ◌∙◌}
 use Prim.Native.Nat.{◌≤◌}
 use lib.Dec.{eqb}
 use lib.ListN.{length}
 use borrow.Author.Tests.{eq-eqb, ne_eqb}
-use Rattle.basis.specs.Choice.{when, ◌and◌}
+use Rattle.basis.specs.Choice.{◌and◌}
 use Rattle.basis.proofs.Choices.{and_parts, and_true, when_true, when_false}
 use Rattle.completed.specs.Completed.{sound_of as completed_sound}
 use Rattle.collect.specs.Sound.{nothing_of, sound_of as collection_sound}

@@ -8,12 +8,10 @@ use Rattle.basis.proofs.Choices.{when_true, when_false}
 use Rattle.machine.specs.Sound.{sound_of as run_sound}
 use Rattle.machine.specs.Step.{step_of as run_step}
 use Rattle.machine.specs.declared.Answer.TheVariants.{Refused}
-use Rattle.machine.specs.declared.Stepped.{Stepped as RunStepped}
 use Rattle.machine.proofs.Keeps.{step_unsound}
 use Rattle.sign.specs.Sound.{framed_of, sound_of}
 use Rattle.sign.specs.Step.{runs_of, stepped_of, step_of}
 use Rattle.sign.specs.declared.Sign.{Sign}
-use Rattle.sign.specs.declared.Stepped.{Stepped}
 use Rattle.sign.proofs.Sounds.{sound_framed}
 
 pub sound_steps : (s : Sign) → sound_of s ≡ true → step_of s ≡ stepped_of s (run_step s.room s.run)

@@ -1,5 +1,4 @@
 use borrow.Author.Rules.{rules}
-use Prim.Native.Nat.{◌-◌}
 use lib.ListN.{length}
 use Rattle.basis.specs.Bytes.{laid}
 use Rattle.words.specs.Words.{words_of}

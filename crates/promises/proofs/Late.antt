@@ -8,7 +8,7 @@ use lib.Dec.{eqb, leb}
 use lib.ListN.{take, replicate}
 use lib.Seq.{take-take, take_all}
 use borrow.Author.Tests.{eqb-true, eq-eqb, not-true}
-use Rattle.basis.specs.Choice.{◌and◌, ◌or◌}
+use Rattle.basis.specs.Choice.{◌or◌}
 use Rattle.basis.proofs.Choices.{and_parts}
 use Rattle.completed.specs.Completed.{ids_of, is_among, differ_of, has_of}
 use Rattle.completed.specs.declared.Completed.{Completed}
@@ -27,7 +27,7 @@ use Rattle.service.proofs.Keeps.{receive_good, step_good}
 use Rattle.service.proofs.Punctual.{steps_completed, steps_slots}
 use Rattle.promises.specs.Unit.{ours}
 use Rattle.promises.specs.Line.{after}
-use Rattle.promises.specs.Late.{Sent, ids_in, delivered, after_all, Between, Came, Late, LateCopies}
+use Rattle.promises.specs.Late.{Sent, ids_in, delivered, after_all, Between, Came, LateCopies}
 use Rattle.promises.proofs.Delivery.{written, behind_good, behind_completed, gets}
 use Rattle.promises.proofs.Record.{ours_obeys}
 

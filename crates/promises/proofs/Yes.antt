@@ -7,7 +7,7 @@ use native.Mathlib.Omega.{arith}
 use lib.Dec.{eqb, leb}
 use borrow.Author.Tests.{eqb-false}
 use lib.ListN.{length, get_or, take, drop}
-use Rattle.basis.specs.Choice.{when, within, ◌and◌, ◌or◌}
+use Rattle.basis.specs.Choice.{when, within, ◌and◌}
 use Rattle.basis.specs.Rows.{first_of}
 use Rattle.packet.specs.Mid.{is_forbidden, Allowed}
 use Rattle.reply.specs.Reply.{heard_of, heard_from, is_reply, is_told}

@@ -1,6 +1,5 @@
 use native.Mathlib.Omega.{arith}
 use borrow.Author.Rules.{rules}
-use Prim.Native.Nat.{◌-◌}
 use Rattle.bus.proofs.lines.decode.Goals as goal
 
 pub loop-n-preserved : goal.loop-n-preserved

@@ -10,5 +10,6 @@ pub returns-then-image-ne-SIZE : goal.returns-then-image-ne-SIZE
 returns-then-image-ne-SIZE c = search tests
 
 pub returns : goal.returns
-returns c = let a = c.args in
+returns c =
+    let a = c.args in
     sign_tells (λ (s : Sign). copy_rows s a.out.now) running_body a.image.now a.out.now (search rules) c.load-sign.ensures c.copy_body-written.ensures c.tell_written.ensures

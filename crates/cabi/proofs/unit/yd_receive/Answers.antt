@@ -13,25 +13,33 @@ use Rattle.cabi.proofs.Lays.{mid_is, mid_short, mid_not_0, unsized, too_short, r
 use Rattle.cabi.proofs.unit.yd_receive.Goals as goal
 
 pub returns-then-image-ne-SIZE : goal.returns-then-image-ne-SIZE
-returns-then-image-ne-SIZE c = let told = let a = c.args in
+returns-then-image-ne-SIZE c =
+    let a = c.args in
     let y = receive_of (record_of a.image.now) a.mid a.bytes.now in
-    unsized (mid_row a.mid ∷ answer_row 100 a.answer.now ∷ []) a.image.now a.answer.now (told_of y.outcome).number (received_bytes y.outcome y.body y.len) (image_of y.sign) c.if-image-ne-SIZE.true in record { result = told.0; kept = told.1.0; told = told.1.1 }
+    let told = unsized (mid_row a.mid ∷ answer_row 100 a.answer.now ∷ []) a.image.now a.answer.now (told_of y.outcome).number (received_bytes y.outcome y.body y.len) (image_of y.sign) c.if-image-ne-SIZE.true in
+    record { result = told.0; kept = told.1.0; told = told.1.1 }
 
 pub returns-then-answer-lt100 : goal.returns-then-answer-lt100
-returns-then-answer-lt100 c = let told = let a = c.args in
+returns-then-answer-lt100 c =
+    let a = c.args in
     let y = receive_of (record_of a.image.now) a.mid a.bytes.now in
-    too_short (mid_row a.mid ∷ answer_row 100 a.answer.now ∷ []) a.image.now a.answer.now (told_of y.outcome).number (received_bytes y.outcome y.body y.len) (image_of y.sign) c.load-sign.result c.short.result c.short_for.result c.if-image-ne-SIZE.false (mid_short a.mid 100 a.answer.now _ c.if-answer-lt100.true ∙ sym c.short_for.ensures) (λ z. mid_not_0 a.mid (sym c.short_for.ensures ∙ z)) c.load-sign.ensures c.short.ensures in record { result = told.0; kept = told.1.0; told = told.1.1 }
+    let told = too_short (mid_row a.mid ∷ answer_row 100 a.answer.now ∷ []) a.image.now a.answer.now (told_of y.outcome).number (received_bytes y.outcome y.body y.len) (image_of y.sign) c.load-sign.result c.short.result c.short_for.result c.if-image-ne-SIZE.false (mid_short a.mid 100 a.answer.now _ c.if-answer-lt100.true ∙ sym c.short_for.ensures) (λ z. mid_not_0 a.mid (sym c.short_for.ensures ∙ z)) c.load-sign.ensures c.short.ensures in
+    record { result = told.0; kept = told.1.0; told = told.1.1 }
 
 pub returns-then-told-ne0 : goal.returns-then-told-ne0
-returns-then-told-ne0 c = let told = let a = c.args in
+returns-then-told-ne0 c =
+    let a = c.args in
     let y = receive_of (record_of a.image.now) a.mid a.bytes.now in
     let e = c.receive-received.ensures ∙ ap (λ (s : Sign). receive_of s a.mid a.bytes.now) c.load-sign.ensures in
     let t = subst (λ (x : Received). (c.tell_received-told.result ≡ first_or (answer_row 100 a.answer.now ∷ []) (told_of x.outcome).number) × (c.tell_received-told.new.answer ≡ told_in 100 (received_bytes x.outcome x.body x.len) a.answer.now)) e (c.tell_received-told.ensures.result, c.tell_received-told.ensures.told) in
-    refused_went (mid_row a.mid ∷ answer_row 100 a.answer.now ∷ []) a.image.now a.answer.now (told_of y.outcome).number (received_bytes y.outcome y.body y.len) (image_of y.sign) 100 c.if-image-ne-SIZE.false c.if-answer-lt100.false (ill_receives a.image.now a.mid a.bytes.now) (λ sound. mid_is a.mid 100 a.answer.now _ c.if-answer-lt100.false (forbidden_19 a.image.now a.mid a.bytes.now sound)) t.0 t.1 (quiet_receive y.outcome y.body y.len) c.if-told-ne0.true in record { result = told.0; kept = told.1.0; told = told.1.1 }
+    let told = refused_went (mid_row a.mid ∷ answer_row 100 a.answer.now ∷ []) a.image.now a.answer.now (told_of y.outcome).number (received_bytes y.outcome y.body y.len) (image_of y.sign) 100 c.if-image-ne-SIZE.false c.if-answer-lt100.false (ill_receives a.image.now a.mid a.bytes.now) (λ sound. mid_is a.mid 100 a.answer.now _ c.if-answer-lt100.false (forbidden_19 a.image.now a.mid a.bytes.now sound)) t.0 t.1 (quiet_receive y.outcome y.body y.len) c.if-told-ne0.true in
+    record { result = told.0; kept = told.1.0; told = told.1.1 }
 
 pub returns : goal.returns
-returns c = let told = let a = c.args in
+returns c =
+    let a = c.args in
     let y = receive_of (record_of a.image.now) a.mid a.bytes.now in
     let e = c.receive-received.ensures ∙ ap (λ (s : Sign). receive_of s a.mid a.bytes.now) c.load-sign.ensures in
     let t = subst (λ (x : Received). (c.tell_received-told.result ≡ first_or (answer_row 100 a.answer.now ∷ []) (told_of x.outcome).number) × (c.tell_received-told.new.answer ≡ told_in 100 (received_bytes x.outcome x.body x.len) a.answer.now)) e (c.tell_received-told.ensures.result, c.tell_received-told.ensures.told) in
-    told_went (mid_row a.mid ∷ answer_row 100 a.answer.now ∷ []) a.image.now a.answer.now (told_of y.outcome).number (received_bytes y.outcome y.body y.len) (image_of y.sign) 100 c.if-image-ne-SIZE.false c.if-answer-lt100.false (ill_receives a.image.now a.mid a.bytes.now) (λ sound. mid_is a.mid 100 a.answer.now _ c.if-answer-lt100.false (forbidden_19 a.image.now a.mid a.bytes.now sound)) t.0 t.1 _ c.if-told-ne0.false (c.store.ensures ∙ ap (λ (x : Received). image_of x.sign) e) in record { result = told.0; kept = told.1.0; told = told.1.1 }
+    let told = told_went (mid_row a.mid ∷ answer_row 100 a.answer.now ∷ []) a.image.now a.answer.now (told_of y.outcome).number (received_bytes y.outcome y.body y.len) (image_of y.sign) 100 c.if-image-ne-SIZE.false c.if-answer-lt100.false (ill_receives a.image.now a.mid a.bytes.now) (λ sound. mid_is a.mid 100 a.answer.now _ c.if-answer-lt100.false (forbidden_19 a.image.now a.mid a.bytes.now sound)) t.0 t.1 _ c.if-told-ne0.false (c.store.ensures ∙ ap (λ (x : Received). image_of x.sign) e) in
+    record { result = told.0; kept = told.1.0; told = told.1.1 }

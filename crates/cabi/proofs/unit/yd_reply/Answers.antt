@@ -12,5 +12,6 @@ pub returns-then-image-ne-SIZE : goal.returns-then-image-ne-SIZE
 returns-then-image-ne-SIZE c = search tests
 
 pub returns : goal.returns
-returns c = let a = c.args in
+returns c =
+    let a = c.args in
     sign_tells (λ (s : Sign). says_rows s a.mid (not (eqb a.aux 0)) a.out.now) (λ (s : Sign). says_of s a.mid (not (eqb a.aux 0))) a.image.now a.out.now (search rules) c.load-sign.ensures c.reply-written.ensures c.tell_written.ensures

@@ -12,7 +12,8 @@ pub returns-then-image-ne-SIZE : goal.returns-then-image-ne-SIZE
 returns-then-image-ne-SIZE c = search tests
 
 pub returns-then-told-ne0 : goal.returns-then-told-ne0
-returns-then-told-ne0 c = let i = c.args.image.now in
+returns-then-told-ne0 c =
+    let i = c.args.image.now in
     let y = cleared_of (record_of i) in
     let e = c.reset-cleared.ensures ∙ ap cleared_of c.load-sign.ensures in
     let n = c.tell_outcome-told.ensures ∙ ap (λ (x : Cleared). (told_of x.outcome).number) e in
@@ -20,8 +21,10 @@ returns-then-told-ne0 c = let i = c.args.image.now in
     record { result = n ∙ t.0; kept = t.1 }
 
 pub returns : goal.returns
-returns c = let told = let i = c.args.image.now in
+returns c =
+    let i = c.args.image.now in
     let y = cleared_of (record_of i) in
     let e = c.reset-cleared.ensures ∙ ap cleared_of c.load-sign.ensures in
     let n = c.tell_outcome-told.ensures ∙ ap (λ (x : Cleared). (told_of x.outcome).number) e in
-    went_on i (told_of y.outcome).number (image_of y.sign) c.if-image-ne-SIZE.false (ill_resets i) _ (sym n ∙ c.if-told-ne0.false) (c.store.ensures ∙ ap (λ (x : Cleared). image_of x.sign) e) in record { result = told.0; kept = told.1 }
+    let told = went_on i (told_of y.outcome).number (image_of y.sign) c.if-image-ne-SIZE.false (ill_resets i) _ (sym n ∙ c.if-told-ne0.false) (c.store.ensures ∙ ap (λ (x : Cleared). image_of x.sign) e) in
+    record { result = told.0; kept = told.1 }

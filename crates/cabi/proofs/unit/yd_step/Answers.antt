@@ -12,25 +12,33 @@ use native.Mathlib.Omega.{arith}
 use Rattle.cabi.proofs.unit.yd_step.Goals as goal
 
 pub returns-then-image-ne-SIZE : goal.returns-then-image-ne-SIZE
-returns-then-image-ne-SIZE c = let told = let a = c.args in
+returns-then-image-ne-SIZE c =
+    let a = c.args in
     let y = step_of (record_of a.image.now) in
-    unsized (answer_row 28 a.answer.now ∷ []) a.image.now a.answer.now (told_of y.answer).number (words_of (told_of y.answer).values) (image_of y.sign) c.if-image-ne-SIZE.true in record { result = told.0; kept = told.1.0; told = told.1.1 }
+    let told = unsized (answer_row 28 a.answer.now ∷ []) a.image.now a.answer.now (told_of y.answer).number (words_of (told_of y.answer).values) (image_of y.sign) c.if-image-ne-SIZE.true in
+    record { result = told.0; kept = told.1.0; told = told.1.1 }
 
 pub returns-then-answer-lt28 : goal.returns-then-answer-lt28
-returns-then-answer-lt28 c = let told = let a = c.args in
+returns-then-answer-lt28 c =
+    let a = c.args in
     let y = step_of (record_of a.image.now) in
-    too_short (answer_row 28 a.answer.now ∷ []) a.image.now a.answer.now (told_of y.answer).number (words_of (told_of y.answer).values) (image_of y.sign) c.load-sign.result c.short.result 252 c.if-image-ne-SIZE.false (answer_short 28 a.answer.now _ c.if-answer-lt28.true) (λ z. omega arith) c.load-sign.ensures c.short.ensures in record { result = told.0; kept = told.1.0; told = told.1.1 }
+    let told = too_short (answer_row 28 a.answer.now ∷ []) a.image.now a.answer.now (told_of y.answer).number (words_of (told_of y.answer).values) (image_of y.sign) c.load-sign.result c.short.result 252 c.if-image-ne-SIZE.false (answer_short 28 a.answer.now _ c.if-answer-lt28.true) (λ z. omega arith) c.load-sign.ensures c.short.ensures in
+    record { result = told.0; kept = told.1.0; told = told.1.1 }
 
 pub returns-then-told-ne0 : goal.returns-then-told-ne0
-returns-then-told-ne0 c = let told = let a = c.args in
+returns-then-told-ne0 c =
+    let a = c.args in
     let y = step_of (record_of a.image.now) in
     let e = c.step-stepped.ensures ∙ ap step_of c.load-sign.ensures in
     let t = subst (λ (x : Stepped). (c.tell_stepped-told.result ≡ first_or (answer_row 28 a.answer.now ∷ []) (told_of x.answer).number) × (c.tell_stepped-told.new.answer ≡ told_in 28 (words_of (told_of x.answer).values) a.answer.now)) e (c.tell_stepped-told.ensures.result, c.tell_stepped-told.ensures.told) in
-    refused_went (answer_row 28 a.answer.now ∷ []) a.image.now a.answer.now (told_of y.answer).number (words_of (told_of y.answer).values) (image_of y.sign) 28 c.if-image-ne-SIZE.false c.if-answer-lt28.false (ill_steps a.image.now) (λ sound. answer_is 28 a.answer.now _ c.if-answer-lt28.false) t.0 t.1 (quiet_step y.answer) c.if-told-ne0.true in record { result = told.0; kept = told.1.0; told = told.1.1 }
+    let told = refused_went (answer_row 28 a.answer.now ∷ []) a.image.now a.answer.now (told_of y.answer).number (words_of (told_of y.answer).values) (image_of y.sign) 28 c.if-image-ne-SIZE.false c.if-answer-lt28.false (ill_steps a.image.now) (λ sound. answer_is 28 a.answer.now _ c.if-answer-lt28.false) t.0 t.1 (quiet_step y.answer) c.if-told-ne0.true in
+    record { result = told.0; kept = told.1.0; told = told.1.1 }
 
 pub returns : goal.returns
-returns c = let told = let a = c.args in
+returns c =
+    let a = c.args in
     let y = step_of (record_of a.image.now) in
     let e = c.step-stepped.ensures ∙ ap step_of c.load-sign.ensures in
     let t = subst (λ (x : Stepped). (c.tell_stepped-told.result ≡ first_or (answer_row 28 a.answer.now ∷ []) (told_of x.answer).number) × (c.tell_stepped-told.new.answer ≡ told_in 28 (words_of (told_of x.answer).values) a.answer.now)) e (c.tell_stepped-told.ensures.result, c.tell_stepped-told.ensures.told) in
-    told_went (answer_row 28 a.answer.now ∷ []) a.image.now a.answer.now (told_of y.answer).number (words_of (told_of y.answer).values) (image_of y.sign) 28 c.if-image-ne-SIZE.false c.if-answer-lt28.false (ill_steps a.image.now) (λ sound. answer_is 28 a.answer.now _ c.if-answer-lt28.false) t.0 t.1 _ c.if-told-ne0.false (c.store.ensures ∙ ap (λ (x : Stepped). image_of x.sign) e) in record { result = told.0; kept = told.1.0; told = told.1.1 }
+    let told = told_went (answer_row 28 a.answer.now ∷ []) a.image.now a.answer.now (told_of y.answer).number (words_of (told_of y.answer).values) (image_of y.sign) 28 c.if-image-ne-SIZE.false c.if-answer-lt28.false (ill_steps a.image.now) (λ sound. answer_is 28 a.answer.now _ c.if-answer-lt28.false) t.0 t.1 _ c.if-told-ne0.false (c.store.ensures ∙ ap (λ (x : Stepped). image_of x.sign) e) in
+    record { result = told.0; kept = told.1.0; told = told.1.1 }

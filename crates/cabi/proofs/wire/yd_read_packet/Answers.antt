@@ -8,11 +8,15 @@ use Rattle.cabi.proofs.Lays.{reader_short, reader_told}
 use Rattle.cabi.proofs.wire.yd_read_packet.Goals as goal
 
 pub returns-then-answer-lt20 : goal.returns-then-answer-lt20
-returns-then-answer-lt20 c = let told = reader_short _ 20 _ _ _ c.if-answer-lt20.true c.short_for.ensures in record { result = told.0; told = told.1 }
+returns-then-answer-lt20 c =
+    let told = reader_short _ 20 _ _ _ c.if-answer-lt20.true c.short_for.ensures in
+    record { result = told.0; told = told.1 }
 
 pub returns : goal.returns
-returns c = let told = let a = c.args in
-    reader_told told_of a.mid 20 a.answer.now c.read_packet-reading.result (read_of a.mid a.bytes.now) c.read_packet-reading.ensures
+returns c =
+    let a = c.args in
+    let told = reader_told told_of a.mid 20 a.answer.now c.read_packet-reading.result (read_of a.mid a.bytes.now) c.read_packet-reading.ensures
     (search rules)
     (λ e. ap (λ (x : Reading). (told_of x).number) (read_stops a.mid a.bytes.now e))
-    (c.tell_reading.ensures.result, c.tell_reading.ensures.told) in record { result = told.0; told = told.1 }
+    (c.tell_reading.ensures.result, c.tell_reading.ensures.told) in
+    record { result = told.0; told = told.1 }

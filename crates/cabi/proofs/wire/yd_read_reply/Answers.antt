@@ -8,11 +8,15 @@ use Rattle.cabi.proofs.Lays.{reader_short, reader_told}
 use Rattle.cabi.proofs.wire.yd_read_reply.Goals as goal
 
 pub returns-then-answer-lt12 : goal.returns-then-answer-lt12
-returns-then-answer-lt12 c = let told = reader_short _ 12 _ _ _ c.if-answer-lt12.true c.short_for.ensures in record { result = told.0; told = told.1 }
+returns-then-answer-lt12 c =
+    let told = reader_short _ 12 _ _ _ c.if-answer-lt12.true c.short_for.ensures in
+    record { result = told.0; told = told.1 }
 
 pub returns : goal.returns
-returns c = let told = let a = c.args in
-    reader_told told_of a.mid 12 a.answer.now c.read_reply-status.result (heard_of a.mid a.bytes.now) c.read_reply-status.ensures
+returns c =
+    let a = c.args in
+    let told = reader_told told_of a.mid 12 a.answer.now c.read_reply-status.result (heard_of a.mid a.bytes.now) c.read_reply-status.ensures
     (search rules)
     (λ e. ap (λ (x : Status). (told_of x).number) (heard_stops a.mid a.bytes.now e))
-    (c.tell_status.ensures.result, c.tell_status.ensures.told) in record { result = told.0; told = told.1 }
+    (c.tell_status.ensures.result, c.tell_status.ensures.told) in
+    record { result = told.0; told = told.1 }

@@ -12,7 +12,8 @@ returns-then-id-ne0 c = search tests
 
 pub returns-then-total-eq0 : goal.returns-then-total-eq0
 unfolding sound_of
-returns-then-total-eq0 c = let a = c.args in
+returns-then-total-eq0 c =
+    let a = c.args in
     let none : a.self.total ≡ 0 = c.if-total-eq0.true in
     search (tests, c.blank.ensures ∙ ap (λ (t : ℕ). slots_of t 0 a.self.lens a.room.now) (sym none))
 

@@ -7,7 +7,8 @@ use mathlib.Core.Path.{◌≡◌, sym, ◌∙◌}
 use Rattle.collect.proofs.sound.ruled.Goals as goal
 
 pub returns-then-not-rule : goal.returns-then-not-rule
-returns-then-not-rule c = let a = c.args in
+returns-then-not-rule c =
+    let a = c.args in
     let l = c.loop-i in
     let s : length a.lens ≡ 6 = search rules in
     let len = get_or a.lens l.i 0 in
@@ -17,12 +18,14 @@ pub slice_bounds-unused-end : goal.slice_bounds-unused-end
 slice_bounds-unused-end c = omega (arith, c.requires)
 
 pub unused-requires : goal.unused-requires
-unused-requires c = let a = c.args in
+unused-requires c =
+    let a = c.args in
     let l = c.loop-i in
     slot_length a.room.now l.i (omega (arith, c.requires))
 
 pub returns-then-not-unused : goal.returns-then-not-unused
-returns-then-not-unused c = let a = c.args in
+returns-then-not-unused c =
+    let a = c.args in
     let l = c.loop-i in
     let s : length a.lens ≡ 6 = search rules in
     let len = get_or a.lens l.i 0 in
@@ -32,7 +35,8 @@ returns-then-not-unused c = let a = c.args in
     sym (slot_unclean a.total a.lens a.room.now l.i (omega arith) right found) ∙ l.invariant.1
 
 pub loop-i-preserved : goal.loop-i-preserved
-loop-i-preserved c = let a = c.args in
+loop-i-preserved c =
+    let a = c.args in
     let l = c.loop-i in
     let s : length a.lens ≡ 6 = search rules in
     let len = get_or a.lens l.i 0 in
@@ -42,7 +46,8 @@ loop-i-preserved c = let a = c.args in
     (omega arith, sym (slot_next a.total a.lens a.room.now l.i (omega arith) right found) ∙ l.invariant.1)
 
 pub returns : goal.returns
-returns c = let a = c.args in
+returns c =
+    let a = c.args in
     let l = c.loop-i in
     let s : length a.lens ≡ 6 = search rules in
     let len = get_or a.lens l.i 0 in

@@ -7,5 +7,6 @@ use Rattle.room.specs.Room.{zeros_of}
 use Rattle.collect.proofs.sound.unused.Goals as goal
 
 pub returns-then-len-eq14 : goal.returns-then-len-eq14
-returns-then-len-eq14 c = let past : length c.args.slot.now ≤ c.args.len = omega (arith, c.requires) in
+returns-then-len-eq14 c =
+    let past : length c.args.slot.now ≤ c.args.len = omega (arith, c.requires) in
     sym (ap zeros_of (drop_of_length-le c.args.slot.now past))

@@ -9,16 +9,19 @@ use Rattle.completed.proofs.Completed.has.Goals as goal
 
 pub returns-then-count-gt4 : goal.returns-then-count-gt4
 unfolding has_of
-returns-then-count-gt4 c = let a = c.args in
+returns-then-count-gt4 c =
+    let a = c.args in
     let size : length a.self.ids ≡ 4 = search rules in
     c.among.ensures ∙ ap (is_among a.id) (sym (take_all a.self.count a.self.ids (omega arith)))
 
 pub slice_bounds-ids-end : goal.slice_bounds-ids-end
-slice_bounds-ids-end c = let size : length c.args.self.ids ≡ 4 = search rules in
+slice_bounds-ids-end c =
+    let size : length c.args.self.ids ≡ 4 = search rules in
     omega arith
 
 pub slice_bounds-among-end-2 : goal.slice_bounds-among-end-2
-slice_bounds-among-end-2 c = let a = c.args in
+slice_bounds-among-end-2 c =
+    let a = c.args in
     let size : length a.self.ids ≡ 4 = search rules in
     sym (length-take-le a.self.count a.self.ids (omega arith))
 

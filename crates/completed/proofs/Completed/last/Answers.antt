@@ -7,10 +7,12 @@ use Rattle.completed.proofs.Completed.last.Goals as goal
 
 pub returns-then-self-eq0 : goal.returns-then-self-eq0
 unfolding last_of
-returns-then-self-eq0 c = let a = c.args.self in
+returns-then-self-eq0 c =
+    let a = c.args.self in
     sym (newest_none a.count a.ids c.if-self-eq0.true)
 
 pub returns : goal.returns
 unfolding last_of
-returns c = let a = c.args.self in
+returns c =
+    let a = c.args.self in
     sym (newest_some a.count a.ids (search rules) c.if-self-eq0.false)

@@ -15,5 +15,6 @@ unfolding sound_of
 returns-then-not-differ c = search (tests, sym c.differ.ensures ∙ c.if-not-differ.true)
 
 pub returns : goal.returns
-returns c = let d = c.args.self in
+returns c =
+    let d = c.args.self in
     c.clean.ensures ∙ sym (sound_by d (omega arith) (sym c.differ.ensures ∙ c.if-not-differ.false))

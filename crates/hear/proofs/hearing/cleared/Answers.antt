@@ -9,5 +9,6 @@ use Rattle.hear.proofs.hearing.cleared.Goals as goal
 
 pub returns : goal.returns
 unfolding begun_of
-returns c = ap (λ (s : Slots). record { outcome = Reset; completed = c.none.result; collection = collection_of s (replicate 84 0); len = 0 }) c.begun.ensures
+returns c =
+    ap (λ (s : Slots). record { outcome = Reset; completed = c.none.result; collection = collection_of s (replicate 84 0); len = 0 }) c.begun.ensures
     ∙ ap (λ (d : Completed). record { outcome = Reset; completed = d; collection = none_of; len = 0 }) c.none.ensures

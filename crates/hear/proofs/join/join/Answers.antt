@@ -14,11 +14,13 @@ pub returns-then-len-ne0 : goal.returns-then-len-ne0
 returns-then-len-ne0 c = search (tests, sym c.has.ensures ∙ c.if-has.false, c.stays-then-len-ne0.ensures)
 
 pub goes_into-requires : goal.goes_into-requires
-goes_into-requires c = let a = c.args in
+goes_into-requires c =
+    let a = c.args in
     (taking_slots a.completed (collection_of a.slots a.room.now) a.id a.total (collection_of c.taking-into.result c.taking-into.new.room) (c.requires.0 (search rules)) c.taking-into.ensures, c.requires.1)
 
 pub returns : goal.returns
-returns c = let a = c.args in
+returns c =
+    let a = c.args in
     join_into a.completed (collection_of a.slots a.room.now) a.len a.id a.total a.position a.part.now (collection_of c.taking-into.result c.taking-into.new.room) (left_of c.goes_into.result c.goes_into.new.room) c.requires.1 (sym c.has.ensures ∙ c.if-has.false)
     (search rules)
     c.taking-into.ensures

@@ -11,13 +11,15 @@ use borrow.Author.Rules.{rules}
 use Rattle.hear.proofs.join.placed.Goals as goal
 
 pub fill-requires : goal.fill-requires
-fill-requires c = let a = c.args in
+fill-requires c =
+    let a = c.args in
     let r : length a.room.now ≡ 84 = search rules in
     let o = c.requires in
     (r, (omega (arith, o.right.below, o.right.most), o.right.few))
 
 pub returns-then-held-next : goal.returns-then-held-next
-returns-then-held-next c = let a = c.args in
+returns-then-held-next c =
+    let a = c.args in
     let k = collection_of a.slots a.room.now in
     let x = c.fill.new.room in
     let n : Collection = record { id = a.slots.id; total = a.slots.total; lens = set a.slots.lens a.position (length a.part.now); room = x } in
@@ -25,7 +27,8 @@ returns-then-held-next c = let a = c.args in
     counted_less a.completed n (stored_of k a.position a.part.now) (left_of c.stays.result x) (stored_is k a.position a.part.now x c.fill.ensures) less (ap (λ (h : Heard). left_of h x) c.stays.ensures)
 
 pub released-requires : goal.released-requires
-released-requires c = let a = c.args in
+released-requires c =
+    let a = c.args in
     let k = collection_of a.slots a.room.now in
     let x = c.fill.new.room in
     let l : length a.slots.lens ≡ 6 = search rules in
@@ -36,7 +39,8 @@ released-requires c = let a = c.args in
     (stored_whole k a.position a.part.now l r c.requires n e all, search rules)
 
 pub returns : goal.returns
-returns c = let a = c.args in
+returns c =
+    let a = c.args in
     let k = collection_of a.slots a.room.now in
     let x = c.fill.new.room in
     let l : length a.slots.lens ≡ 6 = search (rules, c.well_formed.1.0) in

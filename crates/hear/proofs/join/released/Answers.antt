@@ -14,18 +14,21 @@ use borrow.Author.Rules.{rules}
 use Rattle.hear.proofs.join.released.Goals as goal
 
 pub overflow_add-len : goal.overflow_add-len
-overflow_add-len c = let a = c.args in
+overflow_add-len c =
+    let a = c.args in
     let l : length a.slots.lens ≡ 6 = search rules in
     omega (arith, whole_len (collection_of a.slots a.room.now) l c.requires.1 c.requires.0)
 
 pub slice_bounds-judge-end : goal.slice_bounds-judge-end
-slice_bounds-judge-end c = let a = c.args in
+slice_bounds-judge-end c =
+    let a = c.args in
     let l : length a.slots.lens ≡ 6 = search rules in
     sym (length-take-le _ a.room.now (omega (arith, whole_len (collection_of a.slots a.room.now) l c.requires.1 c.requires.0, c.requires.1)))
 
 pub returns : goal.returns
 unfolding begun_of
-returns c = let a = c.args in
+returns c =
+    let a = c.args in
     let k = collection_of a.slots a.room.now in
     let l : length a.slots.lens ≡ 6 = search rules in
     let r = c.requires.1 in

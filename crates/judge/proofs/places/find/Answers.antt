@@ -13,13 +13,15 @@ use Rattle.judge.proofs.places.find.Goals as goal
 
 pub returns-in-Refused : goal.returns-in-Refused
 unfolding stand_of
-returns-in-Refused c = let a = c.args in
+returns-in-Refused c =
+    let a = c.args in
     let b = a.body.now in
     sym (ap (λ (v : Verdict). placed_of (of_accepted v (stand_at a.place (tokens_of b 0) 1 0 false [])) (read_of b a.place)) (front_judged b _ _ (sym c.front-opening.ensures ∙ c.in-Refused.is)))
 
 pub returns-in-Begun : goal.returns-in-Begun
 unfolding stand_of
-returns-in-Begun c = let a = c.args in
+returns-in-Begun c =
+    let a = c.args in
     let b = a.body.now in
     let w = c.walk-walked.result in
     let e = (begun_front b (sym c.front-opening.ensures ∙ c.in-Begun.is)).0 in

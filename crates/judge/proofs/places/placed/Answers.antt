@@ -5,7 +5,8 @@ use Rattle.judge.proofs.Turns.{placed_good, placed_unread}
 use Rattle.judge.proofs.places.placed.Goals as goal
 
 pub returns-in-Refused : goal.returns-in-Refused
-returns-in-Refused c = let s = c.args.standing in
+returns-in-Refused c =
+    let s = c.args.standing in
     sym (ap (placed_of s) c.in-Refused.is ∙ placed_unread s _ _)
 
 pub returns-in-Outside : goal.returns-in-Outside

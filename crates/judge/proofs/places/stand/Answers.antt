@@ -11,11 +11,13 @@ use Rattle.judge.proofs.places.stand.Goals as goal
 
 pub returns-in-Refused : goal.returns-in-Refused
 unfolding stand_of
-returns-in-Refused c = let a = c.args in
+returns-in-Refused c =
+    let a = c.args in
     sym (ap (λ (v : Verdict). of_accepted v (stand_at a.place (tokens_of a.body.now 0) 1 0 false [])) (front_judged a.body.now _ _ (sym c.front-opening.ensures ∙ c.in-Refused.is)))
 
 pub returns-in-Begun : goal.returns-in-Begun
 unfolding stand_of
-returns-in-Begun c = let a = c.args in
+returns-in-Begun c =
+    let a = c.args in
     let e = (begun_front a.body.now (sym c.front-opening.ensures ∙ c.in-Begun.is)).0 in
     ap (λ (w : Walked). w.found) c.walk-walked.ensures.judged ∙ sym (ap (λ (v : Verdict). of_accepted v (stand_at a.place (tokens_of a.body.now 0) 1 0 false [])) e)

@@ -6,5 +6,4 @@ use Rattle.loops.specs.declared.Flow.{Flow}
 use Rattle.judge.proofs.walk.inside.Goals as goal
 
 pub returns-in-Within : goal.returns-in-Within
-returns-in-Within c = let f = c in
-    sym (ap (λ (k : Flow). inside_of (opens_of k)) f.in-Within.is)
+returns-in-Within c = sym (ap (λ (k : Flow). inside_of (opens_of k)) c.in-Within.is)

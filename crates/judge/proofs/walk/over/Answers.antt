@@ -20,5 +20,4 @@ pub returns-in-Ended : goal.returns-in-Ended
 returns-in-Ended c = sym (ap (at_end c.args.found c.args.read) c.in-Ended.is)
 
 pub returns-in-Within : goal.returns-in-Within
-returns-in-Within c = let f = c in
-    sym (ap (at_end f.args.found f.args.read) f.in-Within.is)
+returns-in-Within c = sym (ap (at_end c.args.found c.args.read) c.in-Within.is)

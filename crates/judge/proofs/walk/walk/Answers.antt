@@ -20,7 +20,8 @@ pub loop-at-init : goal.loop-at-init
 loop-at-init c = (refl, (refl, λ h. absurd (h refl)))
 
 pub returns-in-Stop : goal.returns-in-Stop
-returns-in-Stop c = let a = c.args in
+returns-in-Stop c =
+    let a = c.args in
     let b = a.body.now in
     let l = c.loop-at in
     let e = sym (turned_is b l.at l.flow) ∙ ap (λ (r : Reading). turned_of r l.at l.flow) (sym c.read_command-read.ensures) ∙ sym c.turned-said.ensures ∙ c.in-Stop.is in
@@ -28,7 +29,8 @@ returns-in-Stop c = let a = c.args in
     record { judged = ap (λ (v : Verdict). walked_of v (stand_at a.place (tokens_of b 0) 1 0 false []) c.if-at-place.here) stopped; heard = λ h. absurd (h refl) }
 
 pub loop-at-smaller : goal.loop-at-smaller
-loop-at-smaller c = let a = c.args in
+loop-at-smaller c =
+    let a = c.args in
     let b = a.body.now in
     let l = c.loop-at in
     let e = sym (turned_is b l.at l.flow) ∙ ap (λ (r : Reading). turned_of r l.at l.flow) (sym c.read_command-read.ensures) ∙ sym c.turned-said.ensures ∙ c.in-Next.is in
@@ -37,7 +39,8 @@ loop-at-smaller c = let a = c.args in
     omega arith
 
 pub loop-at-preserved : goal.loop-at-preserved
-loop-at-preserved c = let a = c.args in
+loop-at-preserved c =
+    let a = c.args in
     let b = a.body.now in
     let l = c.loop-at in
     let e = sym (turned_is b l.at l.flow) ∙ ap (λ (r : Reading). turned_of r l.at l.flow) (sym c.read_command-read.ensures) ∙ sym c.turned-said.ensures ∙ c.in-Next.is in
@@ -57,12 +60,14 @@ loop-at-preserved c = let a = c.args in
     )
 
 pub returns : goal.returns
-returns c = let a = c.args in
+returns c =
+    let a = c.args in
     let b = a.body.now in
     let l = c.loop-at in
     let h = c.loop-at-test.false in
     let o = c.over.ensures in
-    let end = sym (on_end b l.at l.flow h) ∙ l.invariant.0 in record {
+    let end = sym (on_end b l.at l.flow h) ∙ l.invariant.0 in
+    record {
       judged = o
           ∙ ap (λ (v : Verdict). walked_of v l.found l.here) end
           ∙ ap (λ (s : Standing). walked_of (commands_of b) s l.here) (found_all b a.place l.at l.flow l.found _ h l.invariant.1.0)

@@ -15,7 +15,8 @@ use Rattle.judge.proofs.Turns.{from, stand_from}
 use Rattle.judge.proofs.walk.walk.Given as goal
 
 abbrev pub invariant-loop-at : goal.invariant-loop-at
-invariant-loop-at l = (from (tokens_of l.body l.at) l.at l.flow ≡ commands_of l.body)
+invariant-loop-at l =
+    (from (tokens_of l.body l.at) l.at l.flow ≡ commands_of l.body)
     × ((or_else l.found (stand_from l.place (tokens_of l.body l.at) l.at l.flow) ≡ stand_at l.place (tokens_of l.body 0) 1 0 false [])
     × ((l.found ≡ Nowhere → ⊥) → l.here ≡ read_of l.body l.place))
 

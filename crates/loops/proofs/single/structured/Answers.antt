@@ -8,17 +8,17 @@ use Rattle.loops.specs.declared.Role.{Role}
 use Rattle.loops.proofs.single.structured.Goals as goal
 
 pub returns-in-Broken : goal.returns-in-Broken
-returns-in-Broken c = let u = c in
-    let a = u.args in
+returns-in-Broken c =
+    let a = c.args in
     let k = a.command in
     let x = structure_of (role_of k.kind) (room_of a.flow) (here_of a.place k) (opens_of a.flow) in
-    let s = ap (λ (r : Role). rule_of (structure_of r (room_of a.flow) (here_of a.place k) (opens_of a.flow))) u.role.ensures in
-    turn_broken a.place k.next x (sym (u.rule-said.ensures ∙ s) ∙ c.in-Broken.is)
+    let s = ap (λ (r : Role). rule_of (structure_of r (room_of a.flow) (here_of a.place k) (opens_of a.flow))) c.role.ensures in
+    turn_broken a.place k.next x (sym (c.rule-said.ensures ∙ s) ∙ c.in-Broken.is)
 
 pub returns-in-Kept : goal.returns-in-Kept
-returns-in-Kept c = let u = c in
-    let a = u.args in
+returns-in-Kept c =
+    let a = c.args in
     let k = a.command in
     let x = structure_of (role_of k.kind) (room_of a.flow) (here_of a.place k) (opens_of a.flow) in
-    let s = ap (λ (r : Role). rule_of (structure_of r (room_of a.flow) (here_of a.place k) (opens_of a.flow))) u.role.ensures in
-    turn_kept a.place k.next _ x (sym (u.rule-said.ensures ∙ s) ∙ c.in-Kept.is)
+    let s = ap (λ (r : Role). rule_of (structure_of r (room_of a.flow) (here_of a.place k) (opens_of a.flow))) c.role.ensures in
+    turn_kept a.place k.next _ x (sym (c.rule-said.ensures ∙ s) ∙ c.in-Kept.is)

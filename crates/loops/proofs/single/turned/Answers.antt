@@ -9,13 +9,13 @@ pub returns-then-ended : goal.returns-then-ended
 returns-then-ended c = sym (when_true _ _ _ (sym c.ended.ensures ∙ c.if-ended.true))
 
 pub returns-in-Refused : goal.returns-in-Refused
-returns-in-Refused c = let u = c in
-    let a = u.args in
-    sym (when_false _ _ _ (sym u.ended.ensures ∙ u.if-ended.false) ∙ ap (λ (r : Reading). heard_of r a.place a.flow) c.in-Refused.is)
+returns-in-Refused c =
+    let a = c.args in
+    sym (when_false _ _ _ (sym c.ended.ensures ∙ c.if-ended.false) ∙ ap (λ (r : Reading). heard_of r a.place a.flow) c.in-Refused.is)
 
 pub returns-in-Good : goal.returns-in-Good
-returns-in-Good c = let u = c in
-    let a = u.args in
+returns-in-Good c =
+    let a = c.args in
     c.structured.ensures
     ∙ ap (λ (r : Reading). heard_of r a.place a.flow) (sym c.in-Good.is)
-    ∙ sym (when_false _ _ _ (sym u.ended.ensures ∙ u.if-ended.false))
+    ∙ sym (when_false _ _ _ (sym c.ended.ensures ∙ c.if-ended.false))

@@ -5,21 +5,26 @@ use mathlib.Core.List.{[]}
 use Rattle.loops.proofs.structure.outside.Goals as goal
 
 pub returns-in-Plain : goal.returns-in-Plain
-returns-in-Plain c = let a = c.args in
+returns-in-Plain c =
+    let a = c.args in
     rule_role 1 a.here [] a.role Plain c.in-Plain.is
 
 pub returns-in-Repeat : goal.returns-in-Repeat
-returns-in-Repeat c = let a = c.args in
+returns-in-Repeat c =
+    let a = c.args in
     rule_role 1 a.here [] a.role Repeat c.in-Repeat.is
 
 pub returns-in-Close : goal.returns-in-Close
-returns-in-Close c = let a = c.args in
+returns-in-Close c =
+    let a = c.args in
     rule_role 1 a.here [] a.role Close c.in-Close.is
 
 pub returns-in-Forever : goal.returns-in-Forever
-returns-in-Forever c = let a = c.args in
+returns-in-Forever c =
+    let a = c.args in
     rule_role 1 a.here [] a.role Forever c.in-Forever.is
 
 pub returns-in-Again : goal.returns-in-Again
-returns-in-Again c = let a = c.args in
+returns-in-Again c =
+    let a = c.args in
     rule_role 1 a.here [] a.role Again c.in-Again.is

@@ -4,14 +4,16 @@ use Rattle.loops.specs.declared.Flow.TheVariants.{Free, Ended}
 use Rattle.loops.proofs.structure.rule.Goals as goal
 
 pub returns-in-Free : goal.returns-in-Free
-returns-in-Free c = let a = c.args in
+returns-in-Free c =
+    let a = c.args in
     rule_flow a.role a.here a.flow Free c.outside.result c.in-Free.is c.outside.ensures
 
 pub returns-in-Ended : goal.returns-in-Ended
-returns-in-Ended c = let a = c.args in
+returns-in-Ended c =
+    let a = c.args in
     rule_flow a.role a.here a.flow Ended c.outside-in-Ended.result c.in-Ended.is c.outside-in-Ended.ensures
 
 pub returns-in-Within : goal.returns-in-Within
-returns-in-Within c = let f = c in
-    let a = f.args in
-    rule_flow a.role a.here a.flow _ c.within.result f.in-Within.is c.within.ensures
+returns-in-Within c =
+    let a = c.args in
+    rule_flow a.role a.here a.flow _ c.within.result c.in-Within.is c.within.ensures

@@ -8,11 +8,13 @@ use Rattle.machine.proofs.Sounds.{held_most}
 use Rattle.machine.proofs.Run.run.Goals as goal
 
 pub overflow_cast-number : goal.overflow_cast-number
-overflow_cast-number c = let a = c.args in
+overflow_cast-number c =
+    let a = c.args in
     omega (arith, number_byte a.body.now a.self.place a.command c.requires.1)
 
 pub returns : goal.returns
-returns c = let a = c.args in
+returns c =
+    let a = c.args in
     let p = c.requires in
     let d = a.command in
     let most = held_most a.body.now a.self.place a.self.inner p.0 in

@@ -8,26 +8,31 @@ use borrow.Author.Rules.{rules}
 use Rattle.machine.proofs.Run.sound.Goals as goal
 
 pub returns-then-not-sound : goal.returns-then-not-sound
-returns-then-not-sound c = let a = c.args in
+returns-then-not-sound c =
+    let a = c.args in
     sym (unset a.room.now a.self (sym c.sound.ensures ∙ c.if-not-sound.true))
 
 pub returns-then-len-eq0 : goal.returns-then-len-eq0
-returns-then-len-eq0 c = let a = c.args in
+returns-then-len-eq0 c =
+    let a = c.args in
     let set = sym c.sound.ensures ∙ c.if-not-sound.false in
     c.rests.ensures ∙ sym (resting a.room.now a.self set (search rules))
 
 pub returns-then-not-filled : goal.returns-then-not-filled
-returns-then-not-filled c = let a = c.args in
+returns-then-not-filled c =
+    let a = c.args in
     let set = sym c.sound.ensures ∙ c.if-not-sound.false in
     sym (unfilled a.room.now a.self set c.if-len-eq0.false (sym c.filled.ensures ∙ c.if-not-filled.true))
 
 pub slice_bounds-stand-end : goal.slice_bounds-stand-end
-slice_bounds-stand-end c = let a = c.args in
+slice_bounds-stand-end c =
+    let a = c.args in
     let full = sym c.filled.ensures ∙ c.if-not-filled.false in
     sym (length-take-le a.self.len a.room.now (filled_fits a.room.now a.self.len full))
 
 pub returns : goal.returns
-returns c = let a = c.args in
+returns c =
+    let a = c.args in
     let set = sym c.sound.ensures ∙ c.if-not-sound.false in
     let full = sym c.filled.ensures ∙ c.if-not-filled.false in
     c.held.ensures

@@ -10,38 +10,44 @@ use Rattle.machine.proofs.Sounds.{unset, resting, unfilled, running, filled_fits
 use Rattle.machine.proofs.Run.step.Goals as goal
 
 pub returns-then-not-sound : goal.returns-then-not-sound
-returns-then-not-sound c = let a = c.args in
+returns-then-not-sound c =
+    let a = c.args in
     c.unsound.ensures
     ∙ sym (step_unsound a.room.now a.self (unset a.room.now a.self (sym c.sound.ensures ∙ c.if-not-sound.true)))
 
 pub returns-then-not-rests : goal.returns-then-not-rests
-returns-then-not-rests c = let a = c.args in
+returns-then-not-rests c =
+    let a = c.args in
     let set = sym c.sound.ensures ∙ c.if-not-sound.false in
     let rests = sym c.rests.ensures ∙ c.if-not-rests.true in
     c.unsound-then-not-rests.ensures
     ∙ sym (step_unsound a.room.now a.self (resting a.room.now a.self set c.if-len-eq0.true ∙ rests))
 
 pub returns-then-len-eq0 : goal.returns-then-len-eq0
-returns-then-len-eq0 c = let a = c.args in
+returns-then-len-eq0 c =
+    let a = c.args in
     let set = sym c.sound.ensures ∙ c.if-not-sound.false in
     let none = c.if-len-eq0.true in
     let rests = sym c.rests.ensures ∙ c.if-not-rests.false in
     sym (step_ready a.room.now a.self (resting a.room.now a.self set none ∙ rests) none)
 
 pub returns-then-not-filled : goal.returns-then-not-filled
-returns-then-not-filled c = let a = c.args in
+returns-then-not-filled c =
+    let a = c.args in
     let set = sym c.sound.ensures ∙ c.if-not-sound.false in
     let bare = sym c.filled.ensures ∙ c.if-not-filled.true in
     c.unsound-then-not-filled.ensures
     ∙ sym (step_unsound a.room.now a.self (unfilled a.room.now a.self set c.if-len-eq0.false bare))
 
 pub slice_bounds-body-end : goal.slice_bounds-body-end
-slice_bounds-body-end c = let a = c.args in
+slice_bounds-body-end c =
+    let a = c.args in
     let full = sym c.filled.ensures ∙ c.if-not-filled.false in
     sym (length-take-le a.self.len a.room.now (filled_fits a.room.now a.self.len full))
 
 pub returns-then-not-held : goal.returns-then-not-held
-returns-then-not-held c = let a = c.args in
+returns-then-not-held c =
+    let a = c.args in
     let set = sym c.sound.ensures ∙ c.if-not-sound.false in
     let busy = c.if-len-eq0.false in
     let full = sym c.filled.ensures ∙ c.if-not-filled.false in
@@ -50,13 +56,15 @@ returns-then-not-held c = let a = c.args in
     c.unsound-then-not-held.ensures ∙ sym (step_unsound a.room.now a.self (running a.room.now a.self set busy full ∙ held))
 
 pub run-requires : goal.run-requires
-run-requires c = let a = c.args in
+run-requires c =
+    let a = c.args in
     let found = found_is (stand_of (body_of a.room.now a.self) a.self.place) _ (read_of (body_of a.room.now a.self) a.self.place) _ (sym c.find-found.ensures ∙ c.in-At.is) in
     let held = ap (λ (x : Standing). held_of x a.self.inner) found.0 ∙ sym c.held.ensures ∙ c.if-not-held.false in
     (held, found.1)
 
 pub returns-in-Nowhere : goal.returns-in-Nowhere
-returns-in-Nowhere c = let a = c.args in
+returns-in-Nowhere c =
+    let a = c.args in
     let set = sym c.sound.ensures ∙ c.if-not-sound.false in
     let busy = c.if-len-eq0.false in
     let full = sym c.filled.ensures ∙ c.if-not-filled.false in
@@ -65,7 +73,8 @@ returns-in-Nowhere c = let a = c.args in
     c.unsound-in-Nowhere.ensures ∙ sym (step_unsound a.room.now a.self (running a.room.now a.self set busy full ∙ held))
 
 pub returns-else-not-held : goal.returns-else-not-held
-returns-else-not-held c = let a = c.args in
+returns-else-not-held c =
+    let a = c.args in
     let set = sym c.sound.ensures ∙ c.if-not-sound.false in
     let busy = c.if-len-eq0.false in
     let full = sym c.filled.ensures ∙ c.if-not-filled.false in

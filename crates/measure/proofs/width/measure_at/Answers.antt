@@ -13,7 +13,8 @@ pub returns-then-body-place : goal.returns-then-body-place
 returns-then-body-place c = let a = c.args in part_none a.body.now a.place a.len (search rules)
 
 pub returns : goal.returns
-returns c = let a = c.args in
+returns c =
+    let a = c.args in
     let b = a.body.now in
     let n = c.least-count.result in
     let e = c.least-count.ensures in

@@ -7,6 +7,7 @@ pub bounds-out-at-2 : goal.bounds-out-at-2
 bounds-out-at-2 c = simp length-set (omega arith)
 
 pub returns : goal.returns
-returns c = let a = c.args in
+returns c =
+    let a = c.args in
     let p = c.requires in
     seal_lays a.out.now a.at c.negated.result p.0 (c.negated.ensures ∙ ap (λ (n : ℕ). (256 - n) % 256) p.1)

@@ -17,7 +17,8 @@ pub returns-then-total-at : goal.returns-then-total-at
 returns-then-total-at c = search tests
 
 pub returns-then-out-len : goal.returns-then-out-len
-returns-then-out-len c = let a = c.args in
+returns-then-out-len c =
+    let a = c.args in
     packet_refused a.mid a.id a.body.now a.out.now (search rules) (search rules) (search rules) a.position
     c.lesser-len.result
     (search rules)
@@ -25,7 +26,8 @@ returns-then-out-len c = let a = c.args in
     (search rules)
 
 pub returns : goal.returns
-returns c = let a = c.args in
+returns c =
+    let a = c.args in
     packet_wrote a.mid a.id a.body.now a.out.now (search rules) (search rules) (search rules) a.position
     c.lesser-len.result
     (search rules)

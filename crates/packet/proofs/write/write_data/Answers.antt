@@ -9,7 +9,8 @@ unfolding laid
 loop-i-init c = search rules
 
 pub loop-i-preserved : goal.loop-i-preserved
-loop-i-preserved c = let a = c.args in
+loop-i-preserved c =
+    let a = c.args in
     let l = c.loop-i in
     let below : l.i < length a.part.now = search rules in (
       omega (arith, sum_next a.part.now l.i below),
@@ -17,6 +18,8 @@ loop-i-preserved c = let a = c.args in
     )
 
 pub returns : goal.returns
-returns c = let a = c.args in
+returns c =
+    let a = c.args in
     let l = c.loop-i in
-    let end : length a.part.now ≤ l.i = search rules in record { out_after = l.invariant.1.0 ∙ ap (λ (p : List ℕ). laid p a.out.now) (take_all l.i a.part.now end); value = omega (arith, sum_past a.part.now l.i end) }
+    let end : length a.part.now ≤ l.i = search rules in
+    record { out_after = l.invariant.1.0 ∙ ap (λ (p : List ℕ). laid p a.out.now) (take_all l.i a.part.now end); value = omega (arith, sum_past a.part.now l.i end) }

@@ -4,7 +4,8 @@ use Rattle.packet.proofs.Laying.{both_sum, packet_lays}
 use Rattle.packet.proofs.write.write_fields.Goals as goal
 
 pub seal-requires : goal.seal-requires
-seal-requires c = let a = c.args in
+seal-requires c =
+    let a = c.args in
     let f = c.write_front in
     let d = c.write_data-data in (
       search rules,
@@ -18,7 +19,8 @@ seal-requires c = let a = c.args in
     )
 
 pub returns : goal.returns
-returns c = let a = c.args in
+returns c =
+    let a = c.args in
     let f = c.write_front in
     let d = c.write_data-data in
     c.seal.ensures

@@ -13,5 +13,6 @@ pub bounds-out-3 : goal.bounds-out-3
 bounds-out-3 c = simp length-set (omega arith)
 
 pub returns : goal.returns
-returns c = let a = c.args in
+returns c =
+    let a = c.args in
     laid_sets (a.mid ∷ 0x7F ∷ a.count ∷ a.id ∷ a.fifth ∷ []) a.out.now c.requires

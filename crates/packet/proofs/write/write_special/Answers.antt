@@ -14,7 +14,8 @@ unfolding packet_of
 returns-then-out-lt7 c = search (tests, sym c.forbidden.ensures ∙ c.if-forbidden.false)
 
 pub returns : goal.returns
-returns c = let a = c.args in
+returns c =
+    let a = c.args in
     let allowed = sym c.forbidden.ensures ∙ c.if-forbidden.false in
     guard_passed a.mid _ _ a.out.now _ _ allowed
     (special_wrote a.mid a.id a.out.now _ c.if-out-lt7.false c.write_fields.ensures)

@@ -6,5 +6,6 @@ use Rattle.params.proofs.Entries.{entry_is}
 use Rattle.params.proofs.kinds.kind_of.Goals as goal
 
 pub returns : goal.returns
-returns c = let x = c.args.x in
+returns c =
+    let x = c.args.x in
     ap (λ (n : ℕ). n / 2 ^ (x % 8 * 4) % 16) c.row-entries.ensures ∙ entry_is x (search rules)

@@ -9,28 +9,29 @@ use Rattle.params.proofs.Numbers.{passed_none, number_wrong, value_grows, end_va
 use Rattle.params.proofs.number.read_number.Goals as goal
 
 pub loop-place-init : goal.loop-place-init
-loop-place-init c = let a = c.args in
+loop-place-init c =
+    let a = c.args in
     (search rules, search rules, search rules, passed_none a.body.now a.from)
 
 pub returns-then-at-from : goal.returns-then-at-from
-returns-then-at-from c = let o = c in
-    let l = o.loop-place in
-    let a = o.args in
+returns-then-at-from c =
+    let l = c.loop-place in
+    let a = c.args in
     number_wrong a.lo a.hi a.most a.place a.from (param_of (drop a.from a.body.now))
-    (λ d one few low high. let k = end_count a.body.now a.from l.at l.value o.byte_at-x.result l.invariant.3 o.byte_at-x.ensures c.if-x-eq-CARET.true in omega arith)
+    (λ d one few low high. let k = end_count a.body.now a.from l.at l.value c.byte_at-x.result l.invariant.3 c.byte_at-x.ensures c.if-x-eq-CARET.true in omega arith)
 
 pub returns-then-value-least : goal.returns-then-value-least
-returns-then-value-least c = let o = c in
-    let l = o.loop-place in
-    let a = o.args in
+returns-then-value-least c =
+    let l = c.loop-place in
+    let a = c.args in
     number_wrong a.lo a.hi a.most a.place a.from (param_of (drop a.from a.body.now))
-    (λ d one few low high. let k = end_value a.body.now a.from l.at l.value o.byte_at-x.result l.invariant.3 o.byte_at-x.ensures c.if-x-eq-CARET.true in omega arith)
+    (λ d one few low high. let k = end_value a.body.now a.from l.at l.value c.byte_at-x.result l.invariant.3 c.byte_at-x.ensures c.if-x-eq-CARET.true in omega arith)
 
 pub returns-then-x-eq-CARET : goal.returns-then-x-eq-CARET
-returns-then-x-eq-CARET c = let o = c in
-    let l = o.loop-place in
-    let a = o.args in
-    end_right a.body.now a.from l.at l.value o.byte_at-x.result l.invariant.3 o.byte_at-x.ensures a.lo a.hi a.most a.place
+returns-then-x-eq-CARET c =
+    let l = c.loop-place in
+    let a = c.args in
+    end_right a.body.now a.from l.at l.value c.byte_at-x.result l.invariant.3 c.byte_at-x.ensures a.lo a.hi a.most a.place
     c.if-x-eq-CARET.true
     c.if-at-from.false
     l.invariant.0
@@ -39,53 +40,53 @@ returns-then-x-eq-CARET c = let o = c in
     l.invariant.2
 
 pub returns-then-x-lt48 : goal.returns-then-x-lt48
-returns-then-x-lt48 c = let o = c in
-    let l = o.loop-place in
-    let a = o.args in
+returns-then-x-lt48 c =
+    let l = c.loop-place in
+    let a = c.args in
     number_wrong a.lo a.hi a.most a.place a.from (param_of (drop a.from a.body.now))
-    (λ d one few low high. let k = next_good a.body.now a.from l.at l.value o.byte_at-x.result l.invariant.3 o.byte_at-x.ensures c.if-x-eq-CARET.false d in omega arith)
+    (λ d one few low high. let k = next_good a.body.now a.from l.at l.value c.byte_at-x.result l.invariant.3 c.byte_at-x.ensures c.if-x-eq-CARET.false d in omega arith)
 
 pub returns-then-x-gt57 : goal.returns-then-x-gt57
-returns-then-x-gt57 c = let o = c in
-    let l = o.loop-place in
-    let a = o.args in
+returns-then-x-gt57 c =
+    let l = c.loop-place in
+    let a = c.args in
     number_wrong a.lo a.hi a.most a.place a.from (param_of (drop a.from a.body.now))
-    (λ d one few low high. let k = next_good a.body.now a.from l.at l.value o.byte_at-x.result l.invariant.3 o.byte_at-x.ensures c.if-x-eq-CARET.false d in omega arith)
+    (λ d one few low high. let k = next_good a.body.now a.from l.at l.value c.byte_at-x.result l.invariant.3 c.byte_at-x.ensures c.if-x-eq-CARET.false d in omega arith)
 
 pub returns-then-most-at : goal.returns-then-most-at
-returns-then-most-at c = let o = c in
-    let l = o.loop-place in
-    let a = o.args in
+returns-then-most-at c =
+    let l = c.loop-place in
+    let a = c.args in
     number_wrong a.lo a.hi a.most a.place a.from (param_of (drop a.from a.body.now))
-    (λ d one few low high. let k = next_count a.body.now a.from l.at l.value o.byte_at-x.result l.invariant.3 o.byte_at-x.ensures c.if-x-eq-CARET.false in omega arith)
+    (λ d one few low high. let k = next_count a.body.now a.from l.at l.value c.byte_at-x.result l.invariant.3 c.byte_at-x.ensures c.if-x-eq-CARET.false in omega arith)
 
 pub returns-then-greatest-value : goal.returns-then-greatest-value
-returns-then-greatest-value c = let o = c in
-    let l = o.loop-place in
-    let a = o.args in
-    let v = l.value * 10 + (o.byte_at-x.result - 0x30) in
+returns-then-greatest-value c =
+    let l = c.loop-place in
+    let a = c.args in
+    let v = l.value * 10 + (c.byte_at-x.result - 0x30) in
     number_wrong a.lo a.hi a.most a.place a.from (param_of (drop a.from a.body.now))
     (λ d one few low high.
-    let k = next_value a.body.now a.from l.at l.value o.byte_at-x.result l.invariant.3 o.byte_at-x.ensures c.if-x-eq-CARET.false in
+    let k = next_value a.body.now a.from l.at l.value c.byte_at-x.result l.invariant.3 c.byte_at-x.ensures c.if-x-eq-CARET.false in
     let g = value_grows (param_of (drop (l.at + 1) a.body.now)) v in
     omega arith)
 
 pub overflow_add-at : goal.overflow_add-at
-overflow_add-at c = let o = c in
-    let l = o.loop-place in
-    let a = o.args in
-    let h = within_body a.body.now l.at (λ k. c.if-x-eq-CARET.false (o.byte_at-x.ensures ∙ k)) in
+overflow_add-at c =
+    let l = c.loop-place in
+    let a = c.args in
+    let h = within_body a.body.now l.at (λ k. c.if-x-eq-CARET.false (c.byte_at-x.ensures ∙ k)) in
     search rules
 
 pub loop-place-smaller : goal.loop-place-smaller
-loop-place-smaller c = let o = c in
-    let l = o.loop-place in
-    let a = o.args in
-    let h = within_body a.body.now l.at (λ k. c.if-x-eq-CARET.false (o.byte_at-x.ensures ∙ k)) in
+loop-place-smaller c =
+    let l = c.loop-place in
+    let a = c.args in
+    let h = within_body a.body.now l.at (λ k. c.if-x-eq-CARET.false (c.byte_at-x.ensures ∙ k)) in
     omega arith
 
 pub loop-place-preserved : goal.loop-place-preserved
-loop-place-preserved c = let o = c in
-    let l = o.loop-place in
-    let a = o.args in
-    (omega arith, omega arith, omega arith, next_passed a.body.now a.from l.at l.value o.byte_at-x.result l.invariant.3 o.byte_at-x.ensures c.if-x-eq-CARET.false _ (omega arith) c.if-x-lt48.false c.if-x-gt57.false)
+loop-place-preserved c =
+    let l = c.loop-place in
+    let a = c.args in
+    (omega arith, omega arith, omega arith, next_passed a.body.now a.from l.at l.value c.byte_at-x.result l.invariant.3 c.byte_at-x.ensures c.if-x-eq-CARET.false _ (omega arith) c.if-x-lt48.false c.if-x-gt57.false)

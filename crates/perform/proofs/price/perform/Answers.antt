@@ -2,7 +2,8 @@ use Rattle.perform.proofs.Answered.{answer_is}
 use Rattle.perform.proofs.price.perform.Goals as goal
 
 pub returns : goal.returns
-returns c = let a = c.args in
+returns c =
+    let a = c.args in
     answer_is a.kind a.number a.text a.len a.widths a.settings c.acts-doing.result c.shown.result c.column.result
     c.scans-cost.result
     c.millis.result

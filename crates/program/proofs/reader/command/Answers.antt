@@ -7,28 +7,27 @@ use Rattle.program.proofs.Parameters.{command_wrong, command_right}
 use Rattle.program.proofs.reader.command.Goals as goal
 
 pub overflow_sub-result : goal.overflow_sub-result
-overflow_sub-result c = let k = c in
-    let s = k in
-    let e = ap (next_of s.args.from) k.in-Right.is in
-    let p = s.requires in
+overflow_sub-result c =
+    let e = ap (next_of c.args.from) c.in-Right.is in
+    let p = c.requires in
     omega arith
 
 pub returns-in-Wrong : goal.returns-in-Wrong
-returns-in-Wrong c = let k = c in
-    let a = k.args in
-    command_wrong a.kind a.form a.from a.read _ _ k.in-Wrong.is
+returns-in-Wrong c =
+    let a = c.args in
+    command_wrong a.kind a.form a.from a.read _ _ c.in-Wrong.is
 
 pub returns-in-Text : goal.returns-in-Text
-returns-in-Text c = let k = c in
-    let a = k.args in
-    command_right a.kind a.form Text a.from a.read _ _ k.in-Right.is c.in-Text.is
+returns-in-Text c =
+    let a = c.args in
+    command_right a.kind a.form Text a.from a.read _ _ c.in-Right.is c.in-Text.is
 
 pub returns-in-Bare : goal.returns-in-Bare
-returns-in-Bare c = let k = c in
-    let a = k.args in
-    command_right a.kind a.form Bare a.from a.read _ _ k.in-Right.is c.in-Bare.is
+returns-in-Bare c =
+    let a = c.args in
+    command_right a.kind a.form Bare a.from a.read _ _ c.in-Right.is c.in-Bare.is
 
 pub returns-in-Number : goal.returns-in-Number
-returns-in-Number c = let k = c in
-    let a = k.args in
-    command_right a.kind a.form _ a.from a.read _ _ k.in-Right.is c.in-Number.is
+returns-in-Number c =
+    let a = c.args in
+    command_right a.kind a.form _ a.from a.read _ _ c.in-Right.is c.in-Number.is

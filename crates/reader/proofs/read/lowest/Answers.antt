@@ -42,7 +42,8 @@ unfolding lowest_of
 returns-then-bytes-gt65 c = search (tests, ← c.sum_of.ensures)
 
 pub returns : goal.returns
-returns c = let a = c.args in
+returns c =
+    let a = c.args in
     let summed = sym c.sum_of.ensures ∙ c.if-sum_of-ne0.false in
     c.read_fields.ensures
     ∙ sym

@@ -7,11 +7,13 @@ use Rattle.reckon.proofs.Reckons.{added_is}
 use Rattle.reckon.proofs.reckon.added.Goals as goal
 
 pub overflow_cast-number : goal.overflow_cast-number
-overflow_cast-number c = let a = c.args in
+overflow_cast-number c =
+    let a = c.args in
     omega (arith, number_byte a.body.now a.at.place a.command c.requires.0)
 
 pub returns : goal.returns
-returns c = let a = c.args in
+returns c =
+    let a = c.args in
     let size = c.requires.1 in
     let wide = c.measured-widths.ensures ∙ part_all a.body.now a.command.text a.command.len (omega (arith, size)) in
     added_is a.body.now a.at a.command c.requires.0 c.measured-widths.result c.perform-performed.result c.behind.result c.plus.result c.cost.result wide c.perform-performed.ensures c.behind.ensures c.cost.ensures c.plus.ensures

@@ -29,13 +29,15 @@ pub walk-requires : goal.walk-requires
 walk-requires c = sym c.front-opening.ensures ∙ c.in-Begun.is
 
 pub returns-in-Refused : goal.returns-in-Refused
-returns-in-Refused c = let a = c.args in
+returns-in-Refused c =
+    let a = c.args in
     let b = a.body.now in
     let e = front_judged b _ _ (sym c.front-opening.ensures ∙ c.in-Refused.is) in
     sym (in_range b a.pace a.scans (search rules) (search rules) (search rules) (search rules) _ e)
 
 pub returns-in-Begun : goal.returns-in-Begun
-returns-in-Begun c = let a = c.args in
+returns-in-Begun c =
+    let a = c.args in
     let b = a.body.now in
     let set = settings_sound_lem b a.pace a.scans (search rules) (search rules) (search rules) (search rules) in
     c.walk.ensures

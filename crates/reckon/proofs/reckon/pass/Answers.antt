@@ -14,27 +14,31 @@ pub loop-command-init : goal.loop-command-init
 loop-command-init c = (refl, refl)
 
 pub returns-in_default : goal.returns-in_default
-returns-in_default c = let b = c.args.body.now in
+returns-in_default c =
+    let b = c.args.body.now in
     let l = c.loop-command in
     let e = ap (read_of b) (sym l.invariant.0) ∙ sym c.read_command-read.ensures ∙ c.in_default.is in
     sym (pass_ends b l.at _ _ e) ∙ l.invariant.1
 
 pub added-at-requires : goal.added-at-requires
-added-at-requires c = let b = c.args.body.now in
+added-at-requires c =
+    let b = c.args.body.now in
     let l = c.loop-command in
     let d = c.in-Good.command in
     let e = ap (read_of b) (sym l.invariant.0) ∙ sym c.read_command-read.ensures ∙ c.in-Good.is in
     (e, c.requires)
 
 pub returns-then-not-plain : goal.returns-then-not-plain
-returns-then-not-plain c = let b = c.args.body.now in
+returns-then-not-plain c =
+    let b = c.args.body.now in
     let l = c.loop-command in
     let d = c.in-Good.command in
     let e = ap (read_of b) (sym l.invariant.0) ∙ sym c.read_command-read.ensures ∙ c.in-Good.is in
     c.added-at.ensures ∙ sym (pass_stops b l.at d e (sym c.plain.ensures ∙ c.if-not-plain.true)) ∙ l.invariant.1
 
 pub loop-command-smaller : goal.loop-command-smaller
-loop-command-smaller c = let b = c.args.body.now in
+loop-command-smaller c =
+    let b = c.args.body.now in
     let l = c.loop-command in
     let d = c.in-Good.command in
     let e = ap (read_of b) (sym l.invariant.0) ∙ sym c.read_command-read.ensures ∙ c.in-Good.is in
@@ -46,7 +50,8 @@ loop-command-smaller c = let b = c.args.body.now in
     omega arith
 
 pub loop-command-preserved : goal.loop-command-preserved
-loop-command-preserved c = let b = c.args.body.now in
+loop-command-preserved c =
+    let b = c.args.body.now in
     let l = c.loop-command in
     let d = c.in-Good.command in
     let e = ap (read_of b) (sym l.invariant.0) ∙ sym c.read_command-read.ensures ∙ c.in-Good.is in

@@ -9,11 +9,13 @@ use Rattle.reckon.proofs.Walks.{summed_none, summed_is}
 use Rattle.reckon.proofs.walk.summed.Goals as goal
 
 pub returns-in_default : goal.returns-in_default
-returns-in_default c = let a = c.args in
+returns-in_default c =
+    let a = c.args in
     summed_none a.body.now a.flow a.sums _ _ (sym c.requires.1.0 ∙ c.in_default.is)
 
 pub overflow_cast-number : goal.overflow_cast-number
-overflow_cast-number c = let a = c.args in
+overflow_cast-number c =
+    let a = c.args in
     let b = a.body.now in
     let s = a.sums in
     let d = c.in-Good.command in
@@ -21,7 +23,8 @@ overflow_cast-number c = let a = c.args in
     omega (arith, number_byte b s.at.place d e)
 
 pub taken-requires : goal.taken-requires
-taken-requires c = let a = c.args in
+taken-requires c =
+    let a = c.args in
     let b = a.body.now in
     let s = a.sums in
     let d = c.in-Good.command in
@@ -31,7 +34,8 @@ taken-requires c = let a = c.args in
     (c.requires.0, λ r l w. (is ∙ sym (pass_stops b s.at d e (ap plain_of r)) ∙ (c.requires.1.1 l w).0, (c.requires.1.1 l w).1))
 
 pub returns : goal.returns
-returns c = let a = c.args in
+returns c =
+    let a = c.args in
     let b = a.body.now in
     let s = a.sums in
     let d = c.in-Good.command in

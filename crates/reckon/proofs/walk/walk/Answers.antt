@@ -15,19 +15,22 @@ pub loop-place-init : goal.loop-place-init
 loop-place-init c = stands_first c.args.body.now c.args.settings c.none.result c.none-2.result c.none.ensures
 
 pub returns-in-Stop : goal.returns-in-Stop
-returns-in-Stop c = let b = c.args.body.now in
+returns-in-Stop c =
+    let b = c.args.body.now in
     let l = c.loop-place in
     let σ = c.args.settings in
     let e = sym (turned_is b l.place l.flow) ∙ ap (λ (r : Reading). turned_of r l.place l.flow) (sym c.read_command-read.ensures) ∙ sym c.turned-said.ensures ∙ c.in-Stop.is in
     ap (λ (v : Verdict). by_verdict v (prices_of (tree_in b).block σ) (exit_of (tree_in b).block σ)) (sym (on_stop b l.place _ _ l.flow c.loop-place-test.true e) ∙ l.invariant.1.0 ∙ sym (begun_front b c.requires).0)
 
 pub summed-sums-requires : goal.summed-sums-requires
-summed-sums-requires c = let b = c.args.body.now in
+summed-sums-requires c =
+    let b = c.args.body.now in
     let l = c.loop-place in
     ((begun_front b c.requires).1, (c.read_command-read.ensures ∙ ap (read_of b) l.invariant.0, l.invariant.1.1.0))
 
 pub loop-place-smaller : goal.loop-place-smaller
-loop-place-smaller c = let b = c.args.body.now in
+loop-place-smaller c =
+    let b = c.args.body.now in
     let l = c.loop-place in
     let e = sym (turned_is b l.place l.flow) ∙ ap (λ (r : Reading). turned_of r l.place l.flow) (sym c.read_command-read.ensures) ∙ sym c.turned-said.ensures ∙ c.in-Next.is in
     let g = place_grows b l.place _ l.flow _ e in
@@ -35,12 +38,14 @@ loop-place-smaller c = let b = c.args.body.now in
     omega arith
 
 pub loop-place-preserved : goal.loop-place-preserved
-loop-place-preserved c = let b = c.args.body.now in
+loop-place-preserved c =
+    let b = c.args.body.now in
     let l = c.loop-place in
     let e = sym (turned_is b l.place l.flow) ∙ ap (λ (r : Reading). turned_of r l.place l.flow) (sym c.read_command-read.ensures) ∙ sym c.turned-said.ensures ∙ c.in-Next.is in
     stands_next b _ _ l.place _ l.flow _ l.sums c.summed-sums.result c.loop-place-test.true e c.summed-sums.ensures l.invariant
 
 pub returns : goal.returns
-returns c = let b = c.args.body.now in
+returns c =
+    let b = c.args.body.now in
     let l = c.loop-place in
     c.told.ensures ∙ stands_end b _ _ l.place l.flow l.sums c.loop-place-test.false (begun_front b c.requires).0 l.invariant

@@ -5,20 +5,26 @@ use borrow.Author.Rules.{rules}
 use Rattle.repeater.proofs.stretch.repeat.Goals as goal
 
 pub returns-then-not-shows : goal.returns-then-not-shows
-returns-then-not-shows c = let told = let a = c.args in
-    stands a.body.now a.place a.len a.standing.now a.body.ref_ptr.0 a.body.ref_ptr.1 a.standing.ref_ptr.0 a.standing.ref_ptr.1
-    (sym c.shows.ensures ∙ c.if-not-shows.true) in record { bytes = told.0; block = told.1.0; offset = told.1.1 }
+returns-then-not-shows c =
+    let a = c.args in
+    let told = stands a.body.now a.place a.len a.standing.now a.body.ref_ptr.0 a.body.ref_ptr.1 a.standing.ref_ptr.0 a.standing.ref_ptr.1
+    (sym c.shows.ensures ∙ c.if-not-shows.true) in
+    record { bytes = told.0; block = told.1.0; offset = told.1.1 }
 
 pub overflow_add-end : goal.overflow_add-end
-overflow_add-end c = let a = c.args in
+overflow_add-end c =
+    let a = c.args in
     let e = ends a.body.now a.place a.len (sym c.shows.ensures ∙ c.if-not-shows.false) in
     search (rules, e)
 
 pub slice_bounds-result-end : goal.slice_bounds-result-end
-slice_bounds-result-end c = let a = c.args in
+slice_bounds-result-end c =
+    let a = c.args in
     ends a.body.now a.place a.len (sym c.shows.ensures ∙ c.if-not-shows.false)
 
 pub returns : goal.returns
-returns c = let told = let a = c.args in
-    stretches a.body.now a.place a.len a.standing.now a.body.ref_ptr.0 a.body.ref_ptr.1 a.standing.ref_ptr.0 a.standing.ref_ptr.1
-    (sym c.shows.ensures ∙ c.if-not-shows.false) in record { bytes = told.0; block = told.1.0; offset = told.1.1 }
+returns c =
+    let a = c.args in
+    let told = stretches a.body.now a.place a.len a.standing.now a.body.ref_ptr.0 a.body.ref_ptr.1 a.standing.ref_ptr.0 a.standing.ref_ptr.1
+    (sym c.shows.ensures ∙ c.if-not-shows.false) in
+    record { bytes = told.0; block = told.1.0; offset = told.1.1 }

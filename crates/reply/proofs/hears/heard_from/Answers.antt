@@ -32,14 +32,16 @@ unfolding heard_from
 returns-then-bytes-ne0 c = search (tests, ← c.sum_of.ensures, ← c.turned_mid.ensures)
 
 pub returns-then-not-is_told : goal.returns-then-not-is_told
-returns-then-not-is_told c = let a = c.args in
+returns-then-not-is_told c =
+    let a = c.args in
     let summed = sym c.sum_of.ensures ∙ c.if-sum_of-ne0.false in
     let from_it = c.if-bytes-turned_mid.false ∙ c.turned_mid.ensures in
     let right = reply_right a.mid a.bytes.now (search rules) summed from_it (search rules) (search rules) (search rules) in
     sym (right ∙ when_false _ _ _ (sym c.is_told.ensures ∙ c.if-not-is_told.true))
 
 pub returns : goal.returns
-returns c = let a = c.args in
+returns c =
+    let a = c.args in
     let summed = sym c.sum_of.ensures ∙ c.if-sum_of-ne0.false in
     let from_it = c.if-bytes-turned_mid.false ∙ c.turned_mid.ensures in
     let right = reply_right a.mid a.bytes.now (search rules) summed from_it (search rules) (search rules) (search rules) in

@@ -13,7 +13,8 @@ unfolding reply_of
 returns-then-out-lt8 c = search (tests, sym c.is_last.ensures ∙ c.if-not-is_last.false)
 
 pub returns : goal.returns
-returns c = let a = c.args in
+returns c =
+    let a = c.args in
     let known = sym c.is_last.ensures ∙ c.if-not-is_last.false in
     reply_wrote a.mid a.last a.busy a.sink a.out.now _ c.turned_mid-from.result
     c.state_letter-state.result

@@ -7,5 +7,6 @@ pub returns-then-forbidden : goal.returns-then-forbidden
 returns-then-forbidden c = guard_refused _ _ _ _ (sym c.forbidden.ensures ∙ c.if-forbidden.true)
 
 pub returns : goal.returns
-returns c = guard_passed _ _ _ _ _ _ (sym c.forbidden.ensures ∙ c.if-forbidden.false)
+returns c =
+    guard_passed _ _ _ _ _ _ (sym c.forbidden.ensures ∙ c.if-forbidden.false)
     c.lay_reply.ensures

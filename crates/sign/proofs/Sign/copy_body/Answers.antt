@@ -7,11 +7,13 @@ use Rattle.sign.proofs.Tells.{unsound_tells, short_tells, copy_tells}
 use Rattle.sign.proofs.Sign.copy_body.Goals as goal
 
 pub returns-then-not-sound : goal.returns-then-not-sound
-returns-then-not-sound c = let a = c.args in
+returns-then-not-sound c =
+    let a = c.args in
     unsound_tells a.self _ (body_of a.self.room a.self.run) a.out.now (sym c.sound.ensures ∙ c.if-not-sound.true)
 
 pub returns-then-out-len : goal.returns-then-out-len
-returns-then-out-len c = let a = c.args in
+returns-then-out-len c =
+    let a = c.args in
     let e = sym c.sound.ensures ∙ c.if-not-sound.false in
     short_tells a.self a.out.now e (body_fits a.self e) c.if-out-len.true
 

@@ -10,7 +10,8 @@ pub returns-then-not-framed : goal.returns-then-not-framed
 returns-then-not-framed c = sym (unframed_steps c.args.self (sym c.framed.ensures ∙ c.if-not-framed.true))
 
 pub returns : goal.returns
-returns c = let s = c.args.self in
+returns c =
+    let s = c.args.self in
     let w = c.step-went.result in
     ap (λ (x : List ℕ). record { sign = record { completed = s.completed; slots = s.slots; room = x; run = w.run }; answer = w.answer }) c.empty.ensures
     ∙ ap (stepped_of s) c.step-went.ensures

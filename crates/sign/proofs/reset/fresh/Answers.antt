@@ -11,6 +11,7 @@ use Rattle.sign.proofs.reset.fresh.Goals as goal
 
 pub returns : goal.returns
 unfolding fresh_of begun_of
-returns c = ap (λ (x : Completed). record { completed = x; slots = c.begun-slots.result; room = replicate 84 0; run = c.rested-run.result }) c.none-completed.ensures
+returns c =
+    ap (λ (x : Completed). record { completed = x; slots = c.begun-slots.result; room = replicate 84 0; run = c.rested-run.result }) c.none-completed.ensures
     ∙ ap (λ (x : Slots). record { completed = no_completed; slots = x; room = replicate 84 0; run = c.rested-run.result }) c.begun-slots.ensures
     ∙ ap (λ (x : Run). record { completed = no_completed; slots = slots_in none_of; room = replicate 84 0; run = x }) c.rested-run.ensures

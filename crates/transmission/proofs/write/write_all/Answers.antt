@@ -18,7 +18,8 @@ pub returns-then-id-gt63 : goal.returns-then-id-gt63
 returns-then-id-gt63 c = search tests
 
 pub returns-then-out-size : goal.returns-then-out-size
-returns-then-out-size c = let a = c.args in
+returns-then-out-size c =
+    let a = c.args in
     transmission_refused a.mid a.id a.body.now a.out.now (search rules) (search rules) (search rules) (search rules)
 
 pub loop-position-init : goal.loop-position-init
@@ -26,7 +27,8 @@ unfolding laid packets_of
 loop-position-init c = search rules
 
 pub loop-position-preserved : goal.loop-position-preserved
-loop-position-preserved c = let a = c.args in
+loop-position-preserved c =
+    let a = c.args in
     let l = c.loop-position in (
       search rules,
       next_packet a.mid a.id a.body.now a.out.now (search rules) (search rules) (search rules) l.out c.write_packet.new.out l.position c.write_packet.result
@@ -38,7 +40,8 @@ loop-position-preserved c = let a = c.args in
     )
 
 pub returns : goal.returns
-returns c = let a = c.args in
+returns c =
+    let a = c.args in
     let l = c.loop-position in
     let all : l.position ≡ total_of a.body.now = omega arith in
     transmission_wrote a.mid a.id a.body.now a.out.now (search rules) (search rules) (search rules) l.out (search rules)

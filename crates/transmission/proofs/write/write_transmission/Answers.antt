@@ -10,5 +10,6 @@ pub write_all-requires : goal.write_all-requires
 write_all-requires c = sym c.forbidden.ensures ∙ c.if-forbidden.false
 
 pub returns : goal.returns
-returns c = guard_passed _ _ _ _ _ _ (sym c.forbidden.ensures ∙ c.if-forbidden.false)
+returns c =
+    guard_passed _ _ _ _ _ _ (sym c.forbidden.ensures ∙ c.if-forbidden.false)
     c.write_all.ensures

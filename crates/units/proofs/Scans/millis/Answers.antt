@@ -11,6 +11,7 @@ pub overflow_add-rest : goal.overflow_add-rest
 overflow_add-rest c = omega (arith, rest_small c.args.self.0 c.args.pace (search rules))
 
 pub returns : goal.returns
-returns c = rounds_summed c.args.self.0 c.args.pace c.capped_product.result c.capped_sum.result
+returns c =
+    rounds_summed c.args.self.0 c.args.pace c.capped_product.result c.capped_sum.result
     c.capped_product.ensures
     c.capped_sum.ensures

@@ -12,5 +12,6 @@ pub bounds-out-2 : goal.bounds-out-2
 bounds-out-2 c = simp length-set (omega arith)
 
 pub returns : goal.returns
-returns c = let a = c.args in
+returns c =
+    let a = c.args in
     laid_sets (word_of a.word) a.out.now c.requires

@@ -7,7 +7,8 @@ use Rattle.words.specs.Words.{words_of}
 use Rattle.words.proofs.stepped.lay_performed.Goals as goal
 
 pub returns : goal.returns
-returns c = let a = c.args in
+returns c =
+    let a = c.args in
     let x = a.performed in
     c.lay.ensures
     ∙ ap (λ (k : ℕ). told_in 28 (words_of (k ∷ x.number ∷ x.text ∷ x.len ∷ x.column ∷ x.scans.0 ∷ x.millis.0 ∷ [])) a.answer.now) c.kind_code-code.ensures

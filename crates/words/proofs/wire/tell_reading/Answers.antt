@@ -13,18 +13,26 @@ pub returns-then-answer-lt20 : goal.returns-then-answer-lt20
 returns-then-answer-lt20 c = search tests
 
 pub returns-in-Query : goal.returns-in-Query
-returns-in-Query c = let told = let a = c.args in
-    answers told_of (λ (t : Told). t.number) 20 a.answer.now Query a.reading (search rules) (sym c.in-Query.is) c.lay.ensures in record { result = told.0; told = told.1 }
+returns-in-Query c =
+    let a = c.args in
+    let told = answers told_of (λ (t : Told). t.number) 20 a.answer.now Query a.reading (search rules) (sym c.in-Query.is) c.lay.ensures in
+    record { result = told.0; told = told.1 }
 
 pub returns-in-Reset : goal.returns-in-Reset
-returns-in-Reset c = let told = let a = c.args in
-    answers told_of (λ (t : Told). t.number) 20 a.answer.now Reset a.reading (search rules) (sym c.in-Reset.is) c.lay-in-Reset.ensures in record { result = told.0; told = told.1 }
+returns-in-Reset c =
+    let a = c.args in
+    let told = answers told_of (λ (t : Told). t.number) 20 a.answer.now Reset a.reading (search rules) (sym c.in-Reset.is) c.lay-in-Reset.ensures in
+    record { result = told.0; told = told.1 }
 
 pub returns-in-Normal : goal.returns-in-Normal
-returns-in-Normal c = let told = let a = c.args in
-    answers told_of (λ (t : Told). t.number) 20 a.answer.now (Normal c.in-Normal.id c.in-Normal.total c.in-Normal.position c.in-Normal.len) a.reading (search rules) (sym c.in-Normal.is) c.lay-in-Normal.ensures in record { result = told.0; told = told.1 }
+returns-in-Normal c =
+    let a = c.args in
+    let told = answers told_of (λ (t : Told). t.number) 20 a.answer.now (Normal c.in-Normal.id c.in-Normal.total c.in-Normal.position c.in-Normal.len) a.reading (search rules) (sym c.in-Normal.is) c.lay-in-Normal.ensures in
+    record { result = told.0; told = told.1 }
 
 pub returns-in-Refused : goal.returns-in-Refused
 unfolding words_of
-returns-in-Refused c = let told = let a = c.args in
-    answers told_of (λ (t : Told). t.number) 20 a.answer.now (Refused c.in-Refused.n) a.reading (search rules) (sym c.in-Refused.is) (told_none _ a.answer.now (search rules)) in record { result = told.0; told = told.1 }
+returns-in-Refused c =
+    let a = c.args in
+    let told = answers told_of (λ (t : Told). t.number) 20 a.answer.now (Refused c.in-Refused.n) a.reading (search rules) (sym c.in-Refused.is) (told_none _ a.answer.now (search rules)) in
+    record { result = told.0; told = told.1 }

@@ -39,4 +39,5 @@ returns-then-self-lt2 c = let d : c.args.self.dim ≤ 255 = search rules in sear
 
 pub returns : goal.returns
 unfolding sound_of
-returns c = let d : c.args.self.dim ≤ 255 = search rules in search tests
+returns c =
+    let d : c.args.self.dim ≤ 255 = search rules in search tests

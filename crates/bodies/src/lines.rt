@@ -1,100 +1,49 @@
 // The lines of the input, each taken apart and tried.
-ghost use Rattle.std.specs.Prelude.{◌≤◌, ◌<◌, length};
-
 use crate::show::{judged, measured, read, stood};
-use input::{digit, line_end, pair};
+use arrayvec::ArrayVec;
+use input::{digit, pair};
+use std::io;
 
-// Whether a byte is written as two digits at this place.
-fn coded(text: &[u8], at: usize) -> bool {
-    if text.len() <= at {
-        return false;
-    }
-    text[at] == b'<'
-}
-
-// The byte at a place, or 0 behind the end.
-fn byte(text: &[u8], at: usize) -> u8 {
-    if text.len() <= at {
-        return 0;
-    }
-    text[at]
-}
-
-// The byte that is written at a place.
-fn decoded(text: &[u8], at: usize) -> u8
-    requires { at < 16384 }
-{
-    if coded(text, at) {
-        return pair(byte(text, at + 1), byte(text, at + 2));
-    }
-    byte(text, at)
-}
-
-// The place behind it.
-fn behind(text: &[u8], at: usize) -> usize
-    requires { at < 16384 }
-    ensures { at < result }
-{
-    if coded(text, at) {
-        return at + 4;
-    }
-    at + 1
-}
-
-// The bytes that a text writes, laid into a buffer, and how many they are.
-fn decode(text: &[u8], out: &mut [u8]) -> usize
-    ensures { result ≤ length out.new }
-{
-    let mut at: usize = 0;
-    let mut n: usize = 0;
-    while n < out.len() {
-        if text.len() <= at {
-            return n;
+// The bytes that a text writes, as many as are tried at most: two digits between < and > write one, any other byte itself.
+fn decode(text: &[u8]) -> ArrayVec<u8, 128> {
+    let mut written = text.iter().copied();
+    let mut body = ArrayVec::new();
+    while let Some(x) = written.next() {
+        let byte = match x {
+            b'<' => {
+                let high = written.next().unwrap_or(0);
+                let low = written.next().unwrap_or(0);
+                written.next();
+                pair(high, low)
+            }
+            _ => x,
+        };
+        if body.try_push(byte).is_err() {
+            break;
         }
-        if 16384 <= at {
-            return n;
-        }
-        out[n] = decoded(text, at);
-        at = behind(text, at);
-        n += 1;
     }
-    n
-}
-
-// One thing tried.
-fn tried(what: u8, place: usize, body: &[u8]) {
-    if what == b'j' {
-        judged(body);
-        return;
-    }
-    if what == b'w' {
-        measured(body);
-        return;
-    }
-    if what == b'r' {
-        read(body, place);
-        return;
-    }
-    stood(body, place);
+    body
 }
 
 // One line.
-fn line(text: &[u8]) {
-    if text.len() < 5 {
-        return;
+fn line(rt: &impl Print, text: &[u8]) -> io::Result<()> {
+    let [what, _, tens, ones, _, written @ ..] = text else {
+        return Ok(());
+    };
+    let place = digit(*tens) as usize * 10 + digit(*ones) as usize;
+    let body = decode(written);
+    match what {
+        b'j' => judged(rt, body.as_slice()),
+        b'w' => measured(rt, body.as_slice()),
+        b'r' => read(rt, body.as_slice(), place),
+        _ => stood(rt, body.as_slice(), place),
     }
-    let place = digit(text[2]) as usize * 10 + digit(text[3]) as usize;
-    let mut body = [0u8; 128];
-    let n = decode(&text[5..], &mut body);
-    tried(text[0], place, &body[..n]);
 }
 
 // All lines.
-pub(crate) fn all(text: &[u8]) {
-    let mut at: usize = 0;
-    while at < text.len() {
-        let end = line_end(text, at);
-        line(&text[at..end]);
-        at = end + 1;
+pub(crate) fn all(rt: &impl Print, text: &[u8]) -> io::Result<()> {
+    for text in text.split(|x| *x == b'\n') {
+        line(rt, text)?;
     }
+    Ok(())
 }

@@ -1,145 +1,75 @@
 // One line for each thing tried: the bytes, then the answer in words.
 use judge::{Standing, Verdict};
-use program::{Command, Kind, Reading};
+use program::{Command, Reading};
+use std::{fmt, io};
 
-// Two hexadecimal digits between < and >, for a byte that can't be printed.
-fn coded(x: u8) {
-    io::write_all(1, b"<");
-    io::print_hex(1, x as u64, 2);
-    io::write_all(1, b">");
-}
+// Bytes in print: one that can't be printed as two hexadecimal digits between < and >.
+#[derive(Drop)]
+struct Bytes<'a>(&'a [u8]);
 
-// One byte as itself, if it can be printed.
-fn byte(body: &[u8], at: usize) {
-    if body.len() <= at {
-        return;
+impl fmt::Display for Bytes<'_> {
+    fn fmt<W: fmt::Write>(&self, f: &mut fmt::Formatter<W>) -> fmt::Result {
+        for x in self.0 {
+            match x {
+                b' '..=b'~' => write!(f, "{}", char::from(*x))?,
+                _ => write!(f, "<{x:02x}>")?,
+            }
+        }
+        Ok(())
     }
-    let x = body[at];
-    if x < 0x20 {
-        coded(x);
-        return;
-    }
-    if 0x7E < x {
-        coded(x);
-        return;
-    }
-    io::write_all(1, &body[at..at + 1]);
-}
-
-// All bytes of a body.
-fn bytes(body: &[u8]) {
-    let mut at: usize = 0;
-    while at < body.len() {
-        byte(body, at);
-        at += 1;
-    }
-}
-
-// A word, and a number behind it.
-fn field(word: &[u8], n: usize) {
-    io::write_all(1, word);
-    io::print_decimal(1, n as u64);
-}
-
-// A refusal and its place.
-fn refused(n: u8, place: usize) {
-    field(b"refused ", n as usize);
-    field(b" at ", place);
 }
 
 // What `judge` says of a body.
-pub(crate) fn judged(body: &[u8]) {
-    bytes(body);
-    io::write_all(1, b": ");
-    let verdict = judge::judge(body);
-    match verdict {
-        Verdict::Finite => {
-            io::write_all(1, b"finite");
-        }
-        Verdict::Endless => {
-            io::write_all(1, b"endless");
-        }
-        Verdict::Refused(n, place) => refused(n, place),
+pub(crate) fn judged(rt: &impl Print, body: &[u8]) -> io::Result<()> {
+    let bytes = Bytes(body);
+    match judge::judge(body) {
+        Verdict::Finite => println!(rt; "{bytes}: finite"),
+        Verdict::Endless => println!(rt; "{bytes}: endless"),
+        Verdict::Refused(n, at) => println!(rt; "{bytes}: refused {n} at {at}"),
     }
-    io::write_all(1, b"\n");
 }
 
 // The widths of a text, and where it starts.
-pub(crate) fn measured(text: &[u8]) {
-    bytes(text);
+pub(crate) fn measured(rt: &impl Print, text: &[u8]) -> io::Result<()> {
     let widths = measure::measure(text);
-    field(b": whole ", widths.whole);
-    field(b" lit ", widths.lit);
+    print!(rt;
+        "{}: whole {} lit {}",
+        Bytes(text),
+        widths.whole,
+        widths.lit
+    )?;
     if measure::fits(widths) {
-        field(b" column ", measure::start_column(widths));
+        println!(rt; " column {}", measure::start_column(widths))
     } else {
-        io::write_all(1, b" scrolls");
+        println!(rt; " scrolls")
     }
-    io::write_all(1, b"\n");
 }
 
-// The letters of a kind.
-fn letters(kind: Kind) {
-    match kind {
-        Kind::II => io::write_all(1, b"II"),
-        Kind::IA => io::write_all(1, b"IA"),
-        Kind::IB => io::write_all(1, b"IB"),
-        Kind::S => io::write_all(1, b"S"),
-        Kind::L => io::write_all(1, b"L"),
-        Kind::E => io::write_all(1, b"E"),
-        Kind::F => io::write_all(1, b"F"),
-        Kind::R => io::write_all(1, b"R"),
-        Kind::XS => io::write_all(1, b"XS"),
-        Kind::XF => io::write_all(1, b"XF"),
-        Kind::P => io::write_all(1, b"P"),
-        Kind::Scans => io::write_all(1, b"="),
-        Kind::W => io::write_all(1, b"W"),
-        Kind::XD => io::write_all(1, b"XD"),
-        Kind::XB => io::write_all(1, b"XB"),
-        Kind::Y => io::write_all(1, b"Y"),
-    };
-}
-
-// A command's kind, number, text place and length, and the place behind it.
-fn command(c: Command) {
-    let kind = c.kind;
-    letters(kind);
-    field(b" ", c.number);
-    field(b" ", c.text);
-    field(b" ", c.len);
-    field(b" ", c.next);
-}
-
-// What `read_command` says of a place.
-pub(crate) fn read(body: &[u8], place: usize) {
-    bytes(body);
-    field(b" at ", place);
-    io::write_all(1, b": ");
-    let reading = program::read_command(body, place);
-    match reading {
-        Reading::Good(c) => command(c),
-        Reading::Refused(n, at) => refused(n, at),
+// What `read_command` says of a place: a command's kind, number, text place and length, and the place behind it.
+pub(crate) fn read(rt: &impl Print, body: &[u8], place: usize) -> io::Result<()> {
+    let bytes = Bytes(body);
+    match program::read_command(body, place) {
+        Reading::Good(
+            Command {
+                kind,
+                number,
+                text,
+                len,
+                next,
+            },
+        ) => { println!(rt; "{bytes} at {place}: {kind} {number} {text} {len} {next}") }
+        Reading::Refused(n, at) => println!(rt; "{bytes} at {place}: refused {n} at {at}"),
     }
-    io::write_all(1, b"\n");
 }
 
 // What `stand` says of a place.
-pub(crate) fn stood(body: &[u8], place: usize) {
-    bytes(body);
-    field(b" at ", place);
-    io::write_all(1, b": ");
-    let standing = judge::stand(body, place);
-    match standing {
-        Standing::Nowhere => {
-            io::write_all(1, b"nowhere");
-        }
-        Standing::Outside => {
-            io::write_all(1, b"outside");
-        }
-        Standing::Inside(behind, number) => {
-            field(b"inside ", behind);
-            field(b" ", number);
-        }
+pub(crate) fn stood(rt: &impl Print, body: &[u8], place: usize) -> io::Result<()> {
+    let bytes = Bytes(body);
+    match judge::stand(body, place) {
+        Standing::Nowhere => println!(rt; "{bytes} at {place}: nowhere"),
+        Standing::Outside => println!(rt; "{bytes} at {place}: outside"),
+        Standing::Inside(behind, number) => println!(rt;
+            "{bytes} at {place}: inside {behind} {number}"
+        ),
     }
-    io::write_all(1, b"\n");
 }

@@ -6,7 +6,7 @@ mod adding;
 
 use units::{Millis, Scans, Steps};
 
-#[derive(Clone, Copy)]
+#[derive(Clone, Copy, PartialEq)]
 pub struct Totals {
     pub steps: Steps,
     pub scans: Scans,

@@ -6,6 +6,7 @@
 mod make;
 mod race;
 
-fn main() {
-    race::all();
+fn main(rt: HostRuntime) {
+    // Output that can't be written is left out, and the program ends well all the same.
+    let _ = println!(rt; "bodies 400, run as foretold {}", race::agreed());
 }

@@ -1,5 +1,5 @@
 // A forecast and a plain run of steps, side by side.
-use crate::make::{Made, next, piece};
+use crate::make::body;
 use machine::{Answer, Loop, Run};
 use perform::Settings;
 use reckon::{Foretold, Totals};
@@ -19,140 +19,52 @@ fn set(pace: u8, scans: u8) -> Settings {
 fn with(totals: Totals, answer: Answer) -> Totals {
     match answer {
         Answer::Did(performed) => totals.plus(Totals::cost(performed)),
-        Answer::Idle => totals,
-        Answer::Refused(_) => totals,
+        Answer::Idle | Answer::Refused(_) => totals,
     }
 }
 
-// What a run comes to within so many steps: its totals, the settings that it leaves, and whether it is Ready.
-#[derive(Clone, Copy)]
-pub struct Ran {
-    pub totals: Totals,
-    pub left: Settings,
-    pub ready: bool,
-}
-
-// A run stepped until it is Ready, 4,000 times at most, with its body at the front of this room.
-fn stepped(start: Run, room: &[u8]) -> Ran {
-    let mut run = start;
+// What a run of this body at the front of this room comes to within 4,000 steps, if it is Ready by then: its totals, and the pace and
+// the scans that it leaves.
+fn ran(len: usize, room: &[u8], settings: Settings) -> Option<(Totals, u8, u8)> {
     let mut totals = Totals::none();
-    let mut i: usize = 0;
-    while i < 4000 {
-        if run.len == 0 {
-            let left = run.settings;
-            return Ran {
-                totals,
-                left,
-                ready: true,
-            };
-        }
-        let one = run.step(room);
-        let answer = one.answer;
-        totals = with(totals, answer);
-        let then = one.run;
-        run = then;
-        i += 1;
-    }
-    let left = run.settings;
-    Ran {
-        totals,
-        left,
-        ready: false,
-    }
-}
-
-// Whether two totals are the same.
-fn same(a: Totals, b: Totals) -> bool {
-    let s = a.steps;
-    let t = b.steps;
-    if s.0 != t.0 {
-        return false;
-    }
-    let s = a.scans;
-    let t = b.scans;
-    if s.0 != t.0 {
-        return false;
-    }
-    let s = a.millis;
-    let t = b.millis;
-    s.0 == t.0
-}
-
-// Whether what was foretold of a body is what its run does.
-fn agrees(made: Made, pace: u8, scans: u8) -> bool {
-    let body = made.body;
-    let len = made.len;
-    if 84 < len {
-        return false;
-    }
-    let told = reckon::forecast(&body[..len], pace, scans);
-    let run = Run {
+    let mut run = Run {
         len,
         place: 0,
         inner: Loop { place: 0, left: 0 },
-        settings: set(pace, scans),
+        settings,
     };
-    let ran = stepped(run, &body);
-    let totals = ran.totals;
-    let left = ran.left;
-    match told {
-        Foretold::Ends(foretold, last_pace, last_scans) => {
-            if !ran.ready {
-                return false;
-            }
-            if left.pace != last_pace {
-                return false;
-            }
-            if left.scans != last_scans {
-                return false;
-            }
-            same(foretold, totals)
+    for _ in 0..4000 {
+        if run.len == 0 {
+            return Some((totals, run.settings.pace, run.settings.scans));
         }
-        Foretold::Endless => !ran.ready,
-        Foretold::Refused(_, _) => !ran.ready,
+        let stepped = run.step(room);
+        totals = with(totals, stepped.answer);
+        run = stepped.run;
+    }
+    None
+}
+
+// Whether what was foretold of a body is what its run does.
+fn agrees(body: &[u8], pace: u8, scans: u8) -> bool {
+    let mut room = [0u8; 84];
+    for (to, x) in room.iter_mut().zip(body) {
+        *to = *x;
+    }
+    let ran = ran(body.len(), &room, set(pace, scans));
+    match reckon::forecast(body, pace, scans) {
+        Foretold::Ends(totals, last_pace, last_scans) => {
+            ran == Some((totals, last_pace, last_scans))
+        }
+        Foretold::Endless | Foretold::Refused(_, _) => ran.is_none(),
     }
 }
 
-// A body made from a number.
-fn body(seed: u32) -> Made {
-    let mut made = Made {
-        body: [0; 84],
-        len: 0,
-    };
-    let mut at = seed;
-    let mut i: u32 = 0;
-    while i < 12 {
-        at = next(at);
-        made = piece(made, at / 65536 % 12);
-        i += 1;
-    }
-    made
-}
-
-// 1 where a body made from this number runs as it was foretold, else 0.
-fn one(i: u32) -> u64 {
-    let pace = (i % 20 + 1) as u8;
-    let scans = (i % 6 + 1) as u8;
-    if agrees(body(i), pace, scans) {
-        return 1;
-    }
-    0
+// Whether the body made from a number runs as it was foretold, at a pace and scans made from it too.
+fn one(i: u32) -> bool {
+    agrees(body(i).as_slice(), (i % 20 + 1) as u8, (i % 6 + 1) as u8)
 }
 
 // How many of 400 bodies run as they were foretold.
-fn agreed() -> u64 {
-    let mut sum: u64 = 0;
-    let mut i: u32 = 0;
-    while i < 400 {
-        sum = std::num::wrapping_add_u64(sum, one(i));
-        i += 1;
-    }
-    sum
-}
-
-// The count, in words.
-pub(crate) fn all() {
-    io::write_all(1, b"bodies 400, run as foretold ");
-    io::print_decimal(1, agreed());
-    io::write_all(1, b"\n");
+pub(crate) fn agreed() -> usize {
+    (0..400).filter(|i| one(*i)).count()
 }

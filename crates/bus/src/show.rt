@@ -4,168 +4,105 @@ use input::digit;
 use judge::Verdict;
 use machine::Answer;
 use packet::Written;
-use perform::Performed;
 use repeater::repeat;
 use sign::{Cleared, Received, Sign, Stepped};
+use std::io;
 
-// A word, and a number behind it.
-fn field(word: &[u8], n: usize) {
-    io::write_all(1, word);
-    io::print_decimal(1, n as u64);
+// The first bytes of a buffer, if it has so many.
+fn front(rt: &impl Print, bytes: &[u8], n: usize) -> io::Result<()> {
+    rt.write_all(bytes.get(..n).unwrap_or(&[]))
 }
 
-// The first bytes of a buffer.
-fn front(bytes: &[u8], n: usize) {
-    if bytes.len() < n {
-        return;
-    }
-    io::write_all(1, &bytes[..n]);
-}
-
-// What a released body was judged.
-fn judged(verdict: Verdict) {
-    match verdict {
-        Verdict::Finite => {
-            io::write_all(1, b"finite ");
-        }
-        Verdict::Endless => {
-            io::write_all(1, b"endless ");
-        }
-        Verdict::Refused(n, place) => {
-            field(b"refused ", n as usize);
-            field(b" at ", place);
-            io::write_all(1, b" ");
-        }
-    }
-}
-
-// The outcome of a receive or a reset.
-fn outcome(what: Outcome) {
+// The outcome of a receive or a reset, and what a released body was judged.
+fn outcome(rt: &impl Print, what: Outcome) -> io::Result<()> {
     match what {
-        Outcome::Query => {
-            io::write_all(1, b"query");
+        Outcome::Query => print!(rt; "query"),
+        Outcome::Reset => print!(rt; "reset"),
+        Outcome::Repeat => print!(rt; "repeat"),
+        Outcome::Stored => print!(rt; "stored"),
+        Outcome::Released(Verdict::Finite) => print!(rt; "released finite "),
+        Outcome::Released(Verdict::Endless) => print!(rt; "released endless "),
+        Outcome::Released(Verdict::Refused(n, place)) => {
+            print!(rt; "released refused {n} at {place} ")
         }
-        Outcome::Reset => {
-            io::write_all(1, b"reset");
-        }
-        Outcome::Repeat => {
-            io::write_all(1, b"repeat");
-        }
-        Outcome::Stored => {
-            io::write_all(1, b"stored");
-        }
-        Outcome::Released(verdict) => {
-            io::write_all(1, b"released ");
-            judged(verdict);
-        }
-        Outcome::Refused(n) => {
-            field(b"refused ", n as usize);
-        }
+        Outcome::Refused(n) => print!(rt; "refused {n}"),
     }
 }
 
 // The outcome of a receive with the body that was released.
-pub(crate) fn received(got: Received) -> Sign {
-    let body = got.body;
-    let len = got.len;
-    let what = got.outcome;
-    outcome(what);
-    front(&body, len);
-    io::write_all(1, b"\n");
-    got.sign
+pub(crate) fn received(rt: &impl Print, got: Received) -> io::Result<Sign> {
+    outcome(rt, got.outcome)?;
+    front(rt, &got.body, got.len)?;
+    println!(rt)?;
+    Ok(got.sign)
 }
 
 // The outcome of a reset.
-pub(crate) fn cleared(got: Cleared) -> Sign {
-    let what = got.outcome;
-    outcome(what);
-    io::write_all(1, b"\n");
-    got.sign
-}
-
-// What a command answered that was performed.
-fn performed(did: Performed) {
-    let scans = did.scans;
-    let millis = did.millis;
-    field(b"did number ", did.number as usize);
-    field(b" text ", did.text);
-    field(b" len ", did.len);
-    field(b" column ", did.column);
-    io::write_all(1, b" scans ");
-    io::print_decimal(1, scans.0);
-    io::write_all(1, b" ms ");
-    io::print_decimal(1, millis.0);
-}
-
-// The answer of a step.
-fn answered(answer: Answer) {
-    match answer {
-        Answer::Did(did) => performed(did),
-        Answer::Idle => {
-            io::write_all(1, b"idle");
-        }
-        Answer::Refused(n) => field(b"refused ", n as usize),
-    }
+pub(crate) fn cleared(rt: &impl Print, got: Cleared) -> io::Result<Sign> {
+    outcome(rt, got.outcome)?;
+    println!(rt)?;
+    Ok(got.sign)
 }
 
 // A step's answer.
-pub(crate) fn stepped(went: Stepped) -> Sign {
-    let answer = went.answer;
-    answered(answer);
-    io::write_all(1, b"\n");
-    went.sign
-}
-
-fn wide(x: u8) -> u64 {
-    x as u64
-}
-
-// Bytes in hexadecimal.
-fn coded(bytes: &[u8]) {
-    let mut at: usize = 0;
-    while at < bytes.len() {
-        io::print_hex(1, wide(bytes[at]), 2);
-        at += 1;
+pub(crate) fn stepped(rt: &impl Print, went: Stepped) -> io::Result<Sign> {
+    match went.answer {
+        Answer::Did(did) => {
+            print!(rt;
+                "did number {} text {} len {}",
+                did.number, did.text, did.len
+            )?;
+            println!(rt;
+                " column {} scans {} ms {}",
+                did.column, did.scans.0, did.millis.0
+            )?;
+        }
+        Answer::Idle => println!(rt; "idle")?,
+        Answer::Refused(n) => println!(rt; "refused {n}")?,
     }
+    Ok(went.sign)
 }
 
 // The reply, in hexadecimal.
-pub(crate) fn replied(sign: Sign, aux: bool) -> Sign {
+pub(crate) fn replied(rt: &impl Print, sign: Sign, aux: bool) -> io::Result<Sign> {
     let mut out = [0u8; 8];
-    let wrote = sign.reply(0x80, aux, &mut out);
-    match wrote {
-        Written::Wrote(_) => coded(&out),
-        Written::Refused(n) => field(b"refused ", n as usize),
+    match sign.reply(0x80, aux, &mut out) {
+        Written::Wrote(_) => {
+            for x in out {
+                print!(rt; "{x:02x}")?;
+            }
+            println!(rt)?;
+        }
+        Written::Refused(n) => println!(rt; "refused {n}")?,
     }
-    io::write_all(1, b"\n");
-    sign
+    Ok(sign)
 }
 
 // The running body, copied into a buffer of 20 bytes.
-pub(crate) fn copied(sign: Sign) -> Sign {
+pub(crate) fn copied(rt: &impl Print, sign: Sign) -> io::Result<Sign> {
     let mut out = [0u8; 20];
-    let wrote = sign.copy_body(&mut out);
-    match wrote {
+    match sign.copy_body(&mut out) {
         Written::Wrote(n) => {
-            field(b"copied ", n);
-            io::write_all(1, b" ");
-            front(&out, n);
+            print!(rt; "copied {n} ")?;
+            front(rt, &out, n)?;
+            println!(rt)?;
         }
-        Written::Refused(n) => field(b"refused ", n as usize),
+        Written::Refused(n) => println!(rt; "refused {n}")?,
     }
-    io::write_all(1, b"\n");
-    sign
+    Ok(sign)
 }
 
 // What the repeater hands back of the body that a line gives, behind a place and a length of one digit each.
-pub(crate) fn repeated(sign: Sign, text: &[u8]) -> Sign {
-    if text.len() < 5 {
-        return sign;
+pub(crate) fn repeated(rt: &impl Print, sign: Sign, text: &[u8]) -> io::Result<Sign> {
+    if let [_, _, place, len, _, body @ ..] = text {
+        let stretch = repeat(
+            body,
+            digit(*place) as usize,
+            digit(*len) as usize,
+            b"standing line",
+        );
+        rt.write_all(stretch)?;
+        println!(rt)?;
     }
-    let place = digit(text[2]) as usize;
-    let len = digit(text[3]) as usize;
-    let stretch = repeat(&text[5..], place, len, b"standing line");
-    io::write_all(1, stretch);
-    io::write_all(1, b"\n");
-    sign
+    Ok(sign)
 }

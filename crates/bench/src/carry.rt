@@ -1,35 +1,22 @@
 // How many packets a body takes: rules W14 and N31.
-use crate::field;
 use packet::Written;
 use reader::Reading;
+use std::io;
 
 // How many packets a transmission's first packet says there are; it is full where there are more.
-fn said(bytes: &[u8]) -> u64 {
-    if bytes.len() < 21 {
-        return 0;
-    }
-    let read = reader::read_packet(0x80, &bytes[..21]);
-    match read {
-        Reading::Query => 0,
-        Reading::Reset => 0,
-        Reading::Normal {
-            id: _,
-            total,
-            position: _,
-            len: _,
-        } => total as u64,
-        Reading::Refused(_) => 0,
+fn said(out: &[u8; 126]) -> u8 {
+    match reader::read_packet(0x80, &out[..21]) {
+        Reading::Normal { total, .. } => total,
+        Reading::Query | Reading::Reset | Reading::Refused(_) => 0,
     }
 }
 
 // A body of 14 bytes or more, written as a transmission.
-pub(crate) fn packets(body: &[u8]) {
+pub(crate) fn packets(rt: &impl Print, body: &[u8]) -> io::Result<()> {
     let mut out = [0u8; 126];
-    field(b"a body of ", body.len() as u64);
-    let wrote = transmission::write_transmission(0x80, 5, body, &mut out);
-    match wrote {
-        Written::Wrote(_) => field(b": packets ", said(&out)),
-        Written::Refused(no) => field(b": refused ", no as u64),
+    let len = body.len();
+    match transmission::write_transmission(0x80, 5, body, &mut out) {
+        Written::Wrote(_) => println!(rt; "a body of {len}: packets {}", said(&out)),
+        Written::Refused(n) => println!(rt; "a body of {len}: refused {n}"),
     }
-    io::write_all(1, b"\n");
 }

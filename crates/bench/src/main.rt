@@ -9,42 +9,60 @@ mod carry;
 mod foretell;
 mod show;
 
-// A word and a number.
-pub(crate) fn field(word: &[u8], n: u64) {
-    io::write_all(1, word);
-    io::print_decimal(1, n);
+use std::io;
+
+// The bodies whose packets are counted.
+const CARRIED: [&str; 4] = [
+    "AAAAAAAAAAAAAA",
+    "AAAAAAAAAAAAAAA",
+    "AAAAAAAAAAAAAAAAAAAAAAAAAAAAAAAAAAAAAAAAAAAAAAAAAAAAAAAAAAAAAAAAAAAAAAAAAAAAAAAAAAAA",
+    "AAAAAAAAAAAAAAAAAAAAAAAAAAAAAAAAAAAAAAAAAAAAAAAAAAAAAAAAAAAAAAAAAAAAAAAAAAAAAAAAAAAAA",
+];
+
+// The bodies whose first step is shown.
+const SHOWN: [&str; 9] = [
+    "^IAHI",
+    "^IIHI",
+    "^IIabcdefghijklmnop",
+    "^IIabcdefghijklmnopq",
+    "^IAAAAAAAAAAAAAAAA~dA",
+    "^IIAAAAAAAAAAAAAAA~dA",
+    "^II~bAAAAAAAAAAA",
+    "^IIA~b",
+    "^SAAAAAAAAAAAAAAA~dA",
+];
+
+// The bodies that are forecast.
+const FORETOLD: [&str; 12] = [
+    "^L99^S^S^S^S^S^S^S^S^S^S^S^S^S^S^S^S^S^S^S^S^S^S^S^S^S^S^S^S^S^S^S^S^S^S^S^S^S^S^S^E",
+    "^W5",
+    "^L3^W2^E",
+    "^SHI",
+    "^S",
+    "^IAHI",
+    "^IAAAAAAAAAAAAAAAA~dA",
+    "^=6^P1^SA",
+    "^L2^SHI^P20^E",
+    "^L2^W1^F",
+    "^W1^R",
+    "^P21",
+];
+
+// Every example, a line each.
+fn all(rt: &impl Print) -> io::Result<()> {
+    for body in CARRIED {
+        carry::packets(rt, body.as_bytes())?;
+    }
+    for body in SHOWN {
+        show::first(rt, body)?;
+    }
+    for body in FORETOLD {
+        foretell::forecast(rt, body)?;
+    }
+    Ok(())
 }
 
-fn main() {
-    carry::packets(b"AAAAAAAAAAAAAA");
-    carry::packets(b"AAAAAAAAAAAAAAA");
-    carry::packets(
-        b"AAAAAAAAAAAAAAAAAAAAAAAAAAAAAAAAAAAAAAAAAAAAAAAAAAAAAAAAAAAAAAAAAAAAAAAAAAAAAAAAAAAA",
-    );
-    carry::packets(
-        b"AAAAAAAAAAAAAAAAAAAAAAAAAAAAAAAAAAAAAAAAAAAAAAAAAAAAAAAAAAAAAAAAAAAAAAAAAAAAAAAAAAAAA",
-    );
-    show::first(b"^IAHI");
-    show::first(b"^IIHI");
-    show::first(b"^IIabcdefghijklmnop");
-    show::first(b"^IIabcdefghijklmnopq");
-    show::first(b"^IAAAAAAAAAAAAAAAA~dA");
-    show::first(b"^IIAAAAAAAAAAAAAAA~dA");
-    show::first(b"^II~bAAAAAAAAAAA");
-    show::first(b"^IIA~b");
-    show::first(b"^SAAAAAAAAAAAAAAA~dA");
-    foretell::forecast(
-        b"^L99^S^S^S^S^S^S^S^S^S^S^S^S^S^S^S^S^S^S^S^S^S^S^S^S^S^S^S^S^S^S^S^S^S^S^S^S^S^S^S^E",
-    );
-    foretell::forecast(b"^W5");
-    foretell::forecast(b"^L3^W2^E");
-    foretell::forecast(b"^SHI");
-    foretell::forecast(b"^S");
-    foretell::forecast(b"^IAHI");
-    foretell::forecast(b"^IAAAAAAAAAAAAAAAA~dA");
-    foretell::forecast(b"^=6^P1^SA");
-    foretell::forecast(b"^L2^SHI^P20^E");
-    foretell::forecast(b"^L2^W1^F");
-    foretell::forecast(b"^W1^R");
-    foretell::forecast(b"^P21");
+fn main(rt: HostRuntime) {
+    // Output that can't be written is left out, and the program ends well all the same.
+    let _ = all(&rt);
 }

@@ -13,8 +13,11 @@ use Rattle.basis.specs.Rows.{Row, first_of}
 use Rattle.basis.specs.Told.{Told}
 use Rattle.basis.proofs.Choices.{when_true, when_false}
 use Rattle.packet.specs.Mid.{is_forbidden, mid_row}
-use Rattle.packet.specs.Write.{Writes, answer_of, buffer_of}
-use Rattle.packet.specs.declared.write.Written.{Written}
+use Rattle.packet.specs.Write.{Writes, buffer_of, written_of}
+use Rattle.packet.proofs.Numbers.{rows_told}
+use Rattle.std.specs.Prelude.{Result}
+use Rattle.refusal.specs.Refusal.{AllNamed}
+use Rattle.refusal.specs.declared.Refusal.{Refusal as No}
 use Rattle.machine.specs.Step.{told_of as answer_told}
 use Rattle.machine.specs.declared.Answer.{Answer}
 use Rattle.machine.specs.declared.Answer.TheVariants.{Did, Idle, Refused as NoStep}
@@ -33,27 +36,28 @@ use Rattle.sign.specs.declared.Stepped.{Stepped}
 use Rattle.sign.proofs.Joining.{unsound_receives, forbidden_receives}
 use Rattle.sign.proofs.Stepping.{unsound_steps}
 use Rattle.image.specs.Layout.{image_size, record_of}
-use Rattle.words.specs.Words.{words_of, wrote_of}
+use Rattle.words.specs.Words.{words_of, length_told, wrote_of}
 use Rattle.words.specs.Told.{answer_row, first_or, told_in}
 use Rattle.words.specs.Says.{received_bytes}
 use Rattle.cabi.specs.Calls.{Tells, image_row, guarded, kept_of}
 
 -- a writer's outcomes, as its result
-pub tells : {rows : List Row} {bytes out after : List ℕ} {w : Written} {r : ℕ} → Writes rows bytes out w after → r ≡ wrote_of w → Tells rows bytes out r after
-tells h e = record { told = e ∙ ap wrote_of h.answered; left = h.left }
+pub tells : {rows : List Row} {bytes out after : List ℕ} {w : Result ℕ No} {r : ℕ} → AllNamed rows → Writes rows bytes out w after → r ≡ wrote_of w → Tells rows bytes out r after
+tells {rows} {bytes} named h e = record { told = e ∙ ap wrote_of h.answered ∙ ap length_told (rows_told rows bytes named); left = h.left }
 
 -- the same of a sign in an image of the right size
-pub sign_tells : (rows : Sign → List Row) (bytes : Sign → List ℕ) (image out : List ℕ) {after : List ℕ} {s : Sign} {w : Written} {r : ℕ}
+pub sign_tells : (rows : Sign → List Row) (bytes : Sign → List ℕ) (image out : List ℕ) {after : List ℕ} {s : Sign} {w : Result ℕ No} {r : ℕ}
     → length image ≡ image_size
-    → s ≡ record_of image → Writes (rows s) (bytes s) out w after → r ≡ wrote_of w
+    → AllNamed (rows (record_of image)) → s ≡ record_of image → Writes (rows s) (bytes s) out w after → r ≡ wrote_of w
     → Tells (image_row image ∷ rows (record_of image)) (bytes (record_of image)) out r after
-sign_tells rows bytes image out {after} {s} {w} size e h er =
+sign_tells rows bytes image out {after} {s} {w} size named e h er =
     let own = rows (record_of image) in
+    let own_bytes = bytes (record_of image) in
     let h' = subst (λ (x : Sign). Writes (rows x) (bytes x) out w after) e h in
     let guard : first_of own ≡ first_of (image_row image ∷ own) = sym (when_false _ 251 (first_of own) (ap not (eq-eqb (length image) image_size size))) in
     record {
-      told = er ∙ ap wrote_of (h'.answered ∙ ap (λ (n : ℕ). answer_of n (bytes (record_of image))) guard);
-      left = h'.left ∙ ap (λ (n : ℕ). buffer_of n (bytes (record_of image)) out) guard;
+      told = er ∙ ap wrote_of h'.answered ∙ ap length_told (rows_told own own_bytes named ∙ ap (λ (n : ℕ). written_of n own_bytes) guard);
+      left = h'.left ∙ ap (λ (n : ℕ). buffer_of n own_bytes out) guard;
     }
 
 -- what is told of x is told of y, where x is y

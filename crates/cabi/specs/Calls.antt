@@ -6,7 +6,7 @@ use Rattle.basis.specs.Bytes.{laid}
 use Rattle.basis.specs.Choice.{when}
 use Rattle.basis.specs.Rows.{Row, ◌if◌, first_of}
 use Rattle.packet.specs.Mid.{mid_row}
-use Rattle.packet.specs.Write.{answer_of, buffer_of}
+use Rattle.packet.specs.Write.{buffer_of, written_of}
 use Rattle.reader.specs.Read.{read_of, told_of as read_told}
 use Rattle.reply.specs.Reply.{heard_of, told_of as status_told}
 use Rattle.reckon.specs.Forecast.{forecast_of, told_of as forecast_told}
@@ -17,13 +17,13 @@ use Rattle.sign.specs.Receive.{receive_of}
 use Rattle.sign.specs.Step.{step_of}
 use Rattle.sign.specs.Tell.{told_rows}
 use Rattle.image.specs.Layout.{image_size, image_of, record_of}
-use Rattle.words.specs.Words.{words_of, wrote_of}
+use Rattle.words.specs.Words.{words_of, length_told}
 use Rattle.words.specs.Told.{answer_row, first_or, told_in, foretold_result}
 use Rattle.words.specs.Says.{received_bytes}
 
 -- both outcomes of a call that writes these bytes into a lent buffer, or is refused by these rows
 pub record Tells (rows : List Row) (bytes out : List ℕ) (result : ℕ) (after : List ℕ) : Type 0 where
-  pub told : result ≡ wrote_of (answer_of (first_of rows) bytes)
+  pub told : result ≡ length_told (written_of (first_of rows) bytes)
   pub left : after ≡ buffer_of (first_of rows) bytes out
 
 -- reading a packet, and reading a reply: 19, then 252, then the reader's own number

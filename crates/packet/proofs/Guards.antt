@@ -1,12 +1,12 @@
 -- The guard for the MID (N19): what it refuses, and that with any other MID what stands after it decides, as if it were
 -- not there.
-use Rattle.std.proofs.Common.{◌≡◌, ℕ, Bool, true, false, List, ◌∷◌, sym, refl, ap, ◌∙◌}
+use Rattle.std.proofs.Common.{◌≡◌, ℕ, Bool, true, false, List, ◌∷◌, sym, refl, ap, ◌∙◌, Result, Err}
 use Rattle.basis.specs.Rows.{Row, first_of}
 use Rattle.basis.proofs.Choices.{when_true, when_false}
 use Rattle.packet.specs.Mid.{is_forbidden, Allowed, mid_row, mid_or}
 use Rattle.packet.specs.Write.{Writes, answer_of, buffer_of}
-use Rattle.packet.specs.declared.write.Written.{Written}
-use Rattle.packet.specs.declared.write.Written.TheVariants.{Refused}
+use Rattle.refusal.specs.declared.Refusal.{Refusal}
+use Rattle.refusal.specs.declared.Refusal.TheVariants.{ForbiddenMid}
 use Rattle.packet.proofs.Writing.{refused}
 
 module _ {A : Type 0} (refused : ℕ → A) (mid : ℕ) (answer : A) where
@@ -37,11 +37,11 @@ module _ (mid : ℕ) (rows : List Row) where
 
   module _ (bytes out : List ℕ) where
     -- so a writer refuses a forbidden MID and leaves the buffer
-    pub guard_refused : is_forbidden mid ≡ true → Writes (mid_row mid ∷ rows) bytes out (Refused 19) out
+    pub guard_refused : is_forbidden mid ≡ true → Writes (mid_row mid ∷ rows) bytes out (Err ForbiddenMid) out
     guard_refused e = refused (mid_row mid ∷ rows) bytes out 18 (mid_stops e)
 
     -- and with any other MID it does what it would do without the guard
-    pub guard_passed : (r : Written) (after : List ℕ) → Allowed mid → Writes rows bytes out r after → Writes (mid_row mid ∷ rows) bytes out r after
+    pub guard_passed : (r : Result ℕ Refusal) (after : List ℕ) → Allowed mid → Writes rows bytes out r after → Writes (mid_row mid ∷ rows) bytes out r after
     guard_passed r after e w =
         record {
           answered = w.answered ∙ ap (λ (k : ℕ). answer_of k bytes) (sym (mid_passes e));

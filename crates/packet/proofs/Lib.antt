@@ -1,6 +1,8 @@
 pub mod Fields
 pub mod Guards
 pub mod Laying
+pub mod Mids
+pub mod Numbers
 pub mod Parts
 pub mod Seals
 pub mod Stands

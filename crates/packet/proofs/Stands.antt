@@ -1,5 +1,5 @@
 -- What stands where: packet p of a transmission at byte 21 p, its data at its bytes 5 on, what was written at the buffer's front.
-use Rattle.std.proofs.Common.{◌≡◌, ℕ, zero, suc, ◌+◌, ◌-◌, ◌*◌, ◌<◌, ◌≤◌, min, List, [], ◌∷◌, ◌++◌, length, get_or, take, drop, sym, ap, ◌∙◌, arith, length-drop, drop_at}
+use Rattle.std.proofs.Common.{◌≡◌, ℕ, zero, suc, ◌+◌, ◌-◌, ◌*◌, ◌<◌, ◌≤◌, min, List, [], ◌∷◌, ◌++◌, length, get_or, take, drop, sym, ap, ◌∙◌, arith, length-drop, drop_at, Ok}
 use mathlib.Core.Logic.{dite}
 use native.Mathlib.Decide.{dec_lt}
 use lib.Seq.{drop-append-le, take-append-le, take-length}
@@ -7,7 +7,6 @@ use Rattle.basis.specs.Rows.{Row, first_of}
 use Rattle.basis.proofs.Laid.{take_laid, drop_laid}
 use Rattle.packet.specs.Wire.{check_of, front_of, total_of, part_of, packet_of, packet_at, packets_of, transmission_of}
 use Rattle.packet.specs.Write.{Writes, answer_of, buffer_of}
-use Rattle.packet.specs.declared.write.Written.TheVariants.{Wrote}
 use Rattle.packet.proofs.Parts.{packet_length, part_length, packets_length}
 
 -- the length of one packet of a body
@@ -61,11 +60,11 @@ part_stands mid id fifth part =
     take-append-le (length part) part (0 ∷ check_of (front_of mid id fifth part) ∷ []) (omega arith) ∙ take-length part
 
 -- what a writer wrote stands at the front of the buffer, and what stood behind stands there still
-pub written_stands : (rows : List Row) (bytes out after : List ℕ) (n : ℕ) → Writes rows bytes out (Wrote n) after
+pub written_stands : (rows : List Row) (bytes out after : List ℕ) (n : ℕ) → Writes rows bytes out (Ok n) after
     → (take n after ≡ bytes) × (drop n after ≡ drop n out)
 written_stands rows bytes out after n w = go (first_of rows) w.answered w.left
   where
-    go : (k : ℕ) → Wrote n ≡ answer_of k bytes → after ≡ buffer_of k bytes out → (take n after ≡ bytes) × (drop n after ≡ drop n out)
+    go : (k : ℕ) → Ok n ≡ answer_of k bytes → after ≡ buffer_of k bytes out → (take n after ≡ bytes) × (drop n after ≡ drop n out)
     go zero a l =
         let e : n ≡ length bytes = cc in (
           ap (λ (m : ℕ). take m after) e ∙ ap (take (length bytes)) l ∙ take_laid bytes out,

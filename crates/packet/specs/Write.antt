@@ -1,13 +1,13 @@
 -- Writing: N31 to N34 in the order of W18, where 19 comes first (Mid: `mid_row`), and what a writer lays into the lent
 -- buffer (W13 and W15 to W17).
-use Rattle.std.specs.Prelude.{◌≡◌, ℕ, zero, suc, ◌+◌, Bool, ltb, leb, List, [], ◌∷◌, length, nat_eq, nat_le, nat_lt}
+use Rattle.std.specs.Prelude.{◌≡◌, ℕ, zero, suc, ◌+◌, Bool, ltb, leb, List, [], ◌∷◌, length, nat_eq, nat_le, nat_lt, Result, Ok, Err}
 use Rattle.basis.specs.Bytes.{laid}
 use Rattle.basis.specs.Choice.{◌and◌, ◌or◌, within}
 use Rattle.basis.specs.Rows.{Row, ◌if◌, first_of}
 use Rattle.basis.specs.Told.{Told, yes, no}
 use Rattle.packet.specs.Wire.{total_of, packet_at, transmission_of}
-use Rattle.packet.specs.declared.write.Written.{Written}
-use Rattle.packet.specs.declared.write.Written.TheVariants.{Wrote, Refused}
+use Rattle.refusal.specs.Refusal.{refusal_of, told_by}
+use Rattle.refusal.specs.declared.Refusal.{Refusal}
 
 -- 31: the body is empty or over 84 bytes
 abbrev pub bad_body : List ℕ → Bool
@@ -35,10 +35,10 @@ packet_rows mid id body position out =
 abbrev pub transmission_rows : ℕ → ℕ → List ℕ → List ℕ → List Row
 transmission_rows mid id body out = 31 if bad_body body ∷ 32 if nat_lt 0x3F id ∷ short_by (transmission_of mid id body) out ∷ []
 
--- the answer: the number of the refusal, or how many bytes were written
-abbrev pub answer_of : ℕ → List ℕ → Written
-answer_of zero bytes = Wrote (length bytes)
-answer_of (suc n) bytes = Refused (suc n)
+-- the answer: the refusal of that number, or how many bytes were written
+abbrev pub answer_of : ℕ → List ℕ → Result ℕ Refusal
+answer_of zero bytes = Ok (length bytes)
+answer_of (suc n) bytes = Err (refusal_of (suc n))
 
 -- the buffer behind the call: untouched by a refusal, or with the bytes laid at its front
 abbrev pub buffer_of : ℕ → List ℕ → List ℕ → List ℕ
@@ -46,11 +46,15 @@ buffer_of zero bytes out = laid bytes out
 buffer_of (suc n) bytes out = out
 
 -- both outcomes of a writer that has these refusals and these bytes to lay
-pub record Writes (rows : List Row) (bytes out : List ℕ) (answer : Written) (after : List ℕ) : Type 0 where
+pub record Writes (rows : List Row) (bytes out : List ℕ) (answer : Result ℕ Refusal) (after : List ℕ) : Type 0 where
   pub answered : answer ≡ answer_of (first_of rows) bytes
   pub left : after ≡ buffer_of (first_of rows) bytes out
 
 -- the answer in the rules' numbers: the count of bytes written
-abbrev pub told_of : Written → Told
-told_of (Wrote n) = yes (n ∷ [])
-told_of (Refused n) = no n
+abbrev pub told_of : Result ℕ Refusal → Told
+told_of = told_by (λ n. n ∷ [])
+
+-- what a writer tells whose refusals give this number: the number, or how many bytes were written
+abbrev pub written_of : ℕ → List ℕ → Told
+written_of zero bytes = yes (length bytes ∷ [])
+written_of (suc n) bytes = no (suc n)

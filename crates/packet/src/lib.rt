@@ -11,4 +11,4 @@ mod write;
 
 pub use mid::forbidden;
 pub use sum::{checksum, sum_of};
-pub use write::{Written, write_packet, write_query, write_reset};
+pub use write::{write_packet, write_query, write_reset};

@@ -6,14 +6,5 @@ ghost use Rattle.packet.specs.Mid.{is_forbidden};
 pub fn forbidden(mid: u8) -> bool
     ensures { result ≡ is_forbidden mid }
 {
-    if mid == 0 {
-        return true;
-    }
-    if mid == 1 {
-        return true;
-    }
-    if mid == 0x7e {
-        return true;
-    }
-    mid == 0x7f
+    matches!(mid, 0 | 1 | 0x7e | 0x7f)
 }

@@ -8,10 +8,8 @@ pub fn sum_of(bytes: &[u8]) -> u8
     ensures { result ≡ sum bytes.now % 256 }
 {
     let mut total: u8 = 0;
-    let mut i = 0;
-    while i < bytes.len() {
-        total = std::num::wrapping_add_u8(total, bytes[i]);
-        i += 1;
+    for &x in bytes {
+        total = total.wrapping_add(x);
     }
     total
 }
@@ -20,7 +18,7 @@ pub fn sum_of(bytes: &[u8]) -> u8
 pub(crate) fn negated(total: u8) -> u8
     ensures { result ≡ (256 - total) % 256 }
 {
-    std::num::wrapping_sub_u8(0, total)
+    total.wrapping_neg()
 }
 
 // The byte that brings the sum of these bytes to 0.

@@ -1,20 +1,14 @@
 // Writes one packet of a body, a query or a reset into a lent buffer: W1 to W6, W13 to W15, W17 and W18, with N19 and N31
 // to N34. A refusal changes no byte, and bytes after the written ones stay.
-ghost use Rattle.std.specs.Prelude.{◌≡◌, ◌+◌, ◌%◌, ◌≤◌, min, [], ◌∷◌, length, take};
+ghost use Rattle.std.specs.Prelude.{◌≡◌, ◌+◌, ◌%◌, ◌≤◌, [], ◌∷◌, length, take};
 ghost use Rattle.basis.specs.Bytes.{sum, laid};
 ghost use Rattle.packet.specs.Mid.{mid_row};
 ghost use Rattle.packet.specs.Wire.{sealed, packet_of, packet_at, query_of, reset_of};
 ghost use Rattle.packet.specs.Write.{Writes, short_by, packet_rows};
 
 use crate::mid::forbidden;
-use crate::sum::negated;
-
-// How many bytes were written, or the number for no.
-#[derive(Clone, Copy)]
-pub enum Written {
-    Wrote(usize),
-    Refused(u8),
-}
+use crate::sum::{negated, sum_of};
+use refusal::Refusal;
 
 // Ends the first `at` bytes of the buffer with 00h and their checksum; their sum is told, so that they are not read again.
 fn seal(total: u8, at: usize, out: &mut [u8])
@@ -25,28 +19,6 @@ fn seal(total: u8, at: usize, out: &mut [u8])
     out[at + 1] = negated(total);
 }
 
-// Lays the five bytes that every packet starts with.
-fn write_front(mid: u8, count: u8, id: u8, fifth: u8, out: &mut [u8])
-    requires { 5 ≤ length out.old }
-    ensures { out.new ≡ laid (mid ∷ 0x7F ∷ count ∷ id ∷ fifth ∷ []) out.old }
-{
-    out[0] = mid;
-    out[1] = 0x7f;
-    out[2] = count;
-    out[3] = id;
-    out[4] = fifth;
-}
-
-// The 8-bit sum of the five bytes that every packet starts with.
-fn front_sum(mid: u8, count: u8, id: u8, fifth: u8) -> u8
-    ensures { result ≡ sum (mid ∷ 0x7F ∷ count ∷ id ∷ fifth ∷ []) % 256 }
-{
-    let total = std::num::wrapping_add_u8(mid, 0x7f);
-    let total = std::num::wrapping_add_u8(total, count);
-    let total = std::num::wrapping_add_u8(total, id);
-    std::num::wrapping_add_u8(total, fifth)
-}
-
 // Lays the data at the buffer's front and gives their 8-bit sum, in one walk over them.
 fn write_data(part: &[u8], out: &mut [u8]) -> u8
     requires { length part.now ≤ length out.old }
@@ -54,12 +26,9 @@ fn write_data(part: &[u8], out: &mut [u8]) -> u8
     ensures value { result ≡ sum part.now % 256 }
 {
     let mut total: u8 = 0;
-    let mut i = 0;
-    while i < part.len() {
-        let x = part[i];
+    for (i, &x) in part.iter().enumerate() {
         out[i] = x;
-        total = std::num::wrapping_add_u8(total, x);
-        i += 1;
+        total = total.wrapping_add(x);
     }
     total
 }
@@ -71,82 +40,82 @@ fn write_fields(mid: u8, id: u8, fifth: u8, part: &[u8], out: &mut [u8])
 {
     let len = part.len();
     let count = (len + 7) as u8;
-    write_front(mid, count, id, fifth, out);
-    let front = front_sum(mid, count, id, fifth);
+    let front = [mid, 0x7f, count, id, fifth];
+    out[..5].copy_from_slice(&front);
+    let ahead = sum_of(&front);
     let data = write_data(part, &mut out[5..]);
-    seal(std::num::wrapping_add_u8(front, data), len + 5, out);
-}
-
-// The lesser of two numbers.
-fn lesser(a: usize, b: usize) -> usize
-    ensures { result ≡ min a b }
-{
-    if a < b { a } else { b }
+    seal(ahead.wrapping_add(data), len + 5, out);
 }
 
 // The packet at one position of a body, for a MID that is not judged here.
-fn write_at(mid: u8, id: u8, body: &[u8], position: u8, out: &mut [u8]) -> Written
+fn write_at(mid: u8, id: u8, body: &[u8], position: u8, out: &mut [u8]) -> Result<usize, Refusal>
     ensures { Writes (packet_rows mid id body.now position out.old) (packet_at mid id body.now position) out.old result out.new }
 {
     let n = body.len();
     if n == 0 {
-        return Written::Refused(31);
+        return Err(Refusal::WrongBody);
     }
     if 84 < n {
-        return Written::Refused(31);
+        return Err(Refusal::WrongBody);
     }
     if 0x3f < id {
-        return Written::Refused(32);
+        return Err(Refusal::WrongId);
     }
     let total = (n + 13) / 14;
     let at = position as usize;
     if total <= at {
-        return Written::Refused(33);
+        return Err(Refusal::NoPosition);
     }
     let from = 14 * at;
-    let len = lesser(n - from, 14);
+    let len = (n - from).min(14);
     let to = from + len;
     if out.len() < len + 7 {
-        return Written::Refused(34);
+        return Err(Refusal::NoRoom);
     }
     let fifth = 16 * total as u8 + position;
     write_fields(mid, id, fifth, &body[from..to], out);
-    Written::Wrote(len + 7)
+    Ok(len + 7)
 }
 
 // The packet at one position of a body.
-pub fn write_packet(mid: u8, id: u8, body: &[u8], position: u8, out: &mut [u8]) -> Written
+pub fn write_packet(
+    mid: u8,
+    id: u8,
+    body: &[u8],
+    position: u8,
+    out: &mut [u8],
+) -> Result<usize, Refusal>
     ensures { Writes (mid_row mid ∷ packet_rows mid id body.now position out.old) (packet_at mid id body.now position) out.old result out.new }
 {
     if forbidden(mid) {
-        return Written::Refused(19);
+        return Err(Refusal::ForbiddenMid);
     }
     write_at(mid, id, body, position, out)
 }
 
 // A packet without data: a query or a reset.
-fn write_special(mid: u8, id: u8, out: &mut [u8]) -> Written
+fn write_special(mid: u8, id: u8, out: &mut [u8]) -> Result<usize, Refusal>
     ensures { Writes (mid_row mid ∷ short_by (packet_of mid id 0x10 []) out.old ∷ []) (packet_of mid id 0x10 []) out.old result out.new }
 {
     if forbidden(mid) {
-        return Written::Refused(19);
+        return Err(Refusal::ForbiddenMid);
     }
     if out.len() < 7 {
-        return Written::Refused(34);
+        return Err(Refusal::NoRoom);
     }
     write_fields(mid, id, 0x10, b"", out);
-    Written::Wrote(7)
+    Ok(7)
 }
 
 // The packet that asks the sign of this MID for its status.
-pub fn write_query(mid: u8, out: &mut [u8]) -> Written
+pub fn write_query(mid: u8, out: &mut [u8]) -> Result<usize, Refusal>
     ensures { Writes (mid_row mid ∷ short_by (query_of mid) out.old ∷ []) (query_of mid) out.old result out.new }
 {
     write_special(mid, 0x40, out)
 }
 
 // The packet that resets the sign of this MID.
-pub fn write_reset(mid: u8, out: &mut [u8]) -> Written
+pub fn write_reset(mid: u8, out: &mut [u8]) -> Result<usize, Refusal>
     ensures { Writes (mid_row mid ∷ short_by (reset_of mid) out.old ∷ []) (reset_of mid) out.old result out.new }
 {
     write_special(mid, 0x41, out)

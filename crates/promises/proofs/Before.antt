@@ -10,7 +10,7 @@ use Rattle.basis.specs.Choice.{when}
 use Rattle.basis.specs.Rows.{Row, first_of}
 use Rattle.basis.proofs.Choices.{when_false}
 use Rattle.packet.specs.Mid.{is_forbidden, Allowed, mid_row}
-use Rattle.packet.specs.Write.{short_by, answer_of, buffer_of}
+use Rattle.packet.specs.Write.{short_by, buffer_of, written_of}
 use Rattle.packet.proofs.Guards.{mid_passes}
 use Rattle.reader.specs.Read.{told_of as read_told}
 use Rattle.reader.specs.declared.read.Reading.{Reading}
@@ -27,7 +27,7 @@ use Rattle.sign.specs.Tell.{says_of, says_rows}
 use Rattle.sign.specs.declared.Sign.{Sign}
 use Rattle.sign.specs.declared.Received.{Received}
 use Rattle.image.specs.Layout.{image_size, image_of, record_of}
-use Rattle.words.specs.Words.{words_of, wrote_of}
+use Rattle.words.specs.Words.{words_of, length_told}
 use Rattle.words.specs.Told.{answer_row, first_or, told_in}
 use Rattle.words.specs.Says.{received_bytes}
 use Rattle.cabi.specs.Calls.{Tells, image_row, guarded, kept_of, receive_no}
@@ -72,7 +72,7 @@ by_rows : (rows rows' : List Row) (bytes out : List ℕ) (r : ℕ) (after : List
     → Tells rows' bytes out r after
 by_rows rows rows' bytes out r after e t =
     record {
-      told = t.told ∙ ap (λ (n : ℕ). wrote_of (answer_of n bytes)) e;
+      told = t.told ∙ ap (λ (n : ℕ). length_told (written_of n bytes)) e;
       left = t.left ∙ ap (λ (n : ℕ). buffer_of n bytes out) e;
     }
 

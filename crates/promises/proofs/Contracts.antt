@@ -1,5 +1,5 @@
 -- The code is ours: what the contract of each public call allows is what `ours` answers, in number, values, record and every lent byte.
-use mathlib.Core.Path.{◌≡◌, ap, ◌∙◌}
+use mathlib.Core.Path.{◌≡◌, refl, ap, ◌∙◌}
 use Prim.Native.Nat.{ℕ}
 use mathlib.Core.List.{List}
 use contract.Lifetimes
@@ -7,8 +7,12 @@ use denote.Triple.Clauses
 use borrow.Fn.World
 use borrow.Fn.Kinds as K
 use Rattle.basis.specs.Rows.{Row, first_of}
-use Rattle.packet.specs.Write.{Writes, answer_of, told_of as written_told}
-use Rattle.packet.specs.declared.write.Written.{Written}
+use Rattle.basis.specs.Told.{Told}
+use Rattle.packet.specs.Write.{Writes, told_of as written_told, written_of}
+use Rattle.packet.proofs.Numbers.{rows_told}
+use Rattle.std.specs.Prelude.{Result}
+use Rattle.refusal.specs.Refusal.{AllNamed}
+use Rattle.refusal.specs.declared.Refusal.{Refusal}
 use Rattle.reader.specs.Read.{told_of as read_told}
 use Rattle.reply.specs.Reply.{told_of as status_told}
 use Rattle.judge.specs.Verdict.{told_of as verdict_told}
@@ -64,14 +68,16 @@ use Rattle.repeater.proofs.repeat.Kinds as repeat_kinds
 use Rattle.repeater.proofs.repeat.Reads as repeat_reads
 
 -- what a writer of the code leaves, as `ours` says it: its answer in the rules' numbers, and the buffer after the call
-abbrev pub wrote_in : Written → (buffer : List ℕ) → Wrote
+abbrev pub wrote_in : Result ℕ Refusal → (buffer : List ℕ) → Wrote
 wrote_in r buffer = record { told = written_told r; buffer = buffer }
 
--- a writer that is held to these rows and these bytes leaves what `left_by` says of them
-pub is_left : (rows : List Row) (bytes out : List ℕ) (r : Written) (after : List ℕ) → Writes rows bytes out r after
+-- a writer that is held to these rows and these bytes leaves what `left_by` says of them, where each number of the rows has a name
+pub is_left : (rows : List Row) (bytes out : List ℕ) (r : Result ℕ Refusal) (after : List ℕ) → AllNamed rows → Writes rows bytes out r after
     → wrote_in r after ≡ left_by rows bytes out
-is_left rows bytes out r after h =
-    ap (λ (w : Written). wrote_in w after) h.answered ∙ ap (λ (b : List ℕ). wrote_in (answer_of (first_of rows) bytes) b) h.left
+is_left rows bytes out r after named h =
+    ap (λ (w : Result ℕ Refusal). wrote_in w after) h.answered
+    ∙ ap (λ (t : Told). record { told = t; buffer = after }) (rows_told rows bytes named)
+    ∙ ap (λ (b : List ℕ). record { told = written_of (first_of rows) bytes; buffer = b }) h.left
 
 -- a packet is read as `ours` reads it
 pub is_read : (κs : Lifetimes.Lfts 1) (a : World.ArgsD read_packet.signature κs) (r : World.ResD read_packet.signature κs)
@@ -89,31 +95,31 @@ is_hear κs a r s h = ap status_told h
 pub is_query : (κs : Lifetimes.Lfts 1) (a : World.ArgsD write_query.signature κs) (r : World.ResD write_query.signature κs)
     (s : Clauses.AtExit (K.ended_of 1 write_query_kinds.ps write_query_kinds.r) κs) → write_query_reads.Post κs a r s
     → wrote_in r s.1.0.now ≡ ours.query a.0 a.1.0.now
-is_query κs a r s h = is_left _ _ _ _ _ h
+is_query κs a r s h = is_left _ _ _ _ _ (refl, (refl, tt)) h
 
 -- a reset is written as `ours` writes it
 pub is_reset : (κs : Lifetimes.Lfts 1) (a : World.ArgsD write_reset.signature κs) (r : World.ResD write_reset.signature κs)
     (s : Clauses.AtExit (K.ended_of 1 write_reset_kinds.ps write_reset_kinds.r) κs) → write_reset_reads.Post κs a r s
     → wrote_in r s.1.0.now ≡ ours.reset a.0 a.1.0.now
-is_reset κs a r s h = is_left _ _ _ _ _ h
+is_reset κs a r s h = is_left _ _ _ _ _ (refl, (refl, tt)) h
 
 -- one packet of a body is written as `ours` writes it
 pub is_write : (κs : Lifetimes.Lfts 2) (a : World.ArgsD write_packet.signature κs) (r : World.ResD write_packet.signature κs)
     (s : Clauses.AtExit (K.ended_of 2 write_packet_kinds.ps write_packet_kinds.r) κs) → write_packet_reads.Post κs a r s
     → wrote_in r s.1.1.1.1.0.now ≡ ours.write a.0 a.1.0 a.1.1.0.now a.1.1.1.0 a.1.1.1.1.0.now
-is_write κs a r s h = is_left _ _ _ _ _ h
+is_write κs a r s h = is_left _ _ _ _ _ (refl, (refl, (refl, (refl, (refl, tt))))) h
 
 -- a whole transmission is written as `ours` writes it
 pub is_transmit : (κs : Lifetimes.Lfts 2) (a : World.ArgsD write_transmission.signature κs) (r : World.ResD write_transmission.signature κs)
     (s : Clauses.AtExit (K.ended_of 2 write_transmission_kinds.ps write_transmission_kinds.r) κs) → write_transmission_reads.Post κs a r s
     → wrote_in r s.1.1.1.0.now ≡ ours.transmit a.0 a.1.0 a.1.1.0.now a.1.1.1.0.now
-is_transmit κs a r s h = is_left _ _ _ _ _ h
+is_transmit κs a r s h = is_left _ _ _ _ _ (refl, (refl, (refl, (refl, tt)))) h
 
 -- a reply of given fields is written as `ours` writes it
 pub is_answer : (κs : Lifetimes.Lfts 1) (a : World.ArgsD write_reply.signature κs) (r : World.ResD write_reply.signature κs)
     (s : Clauses.AtExit (K.ended_of 1 write_reply_kinds.ps write_reply_kinds.r) κs) → write_reply_reads.Post κs a r s
     → wrote_in r s.1.1.1.1.0.now ≡ ours.answer a.0 a.1.0 a.1.1.0 a.1.1.1.0 a.1.1.1.1.0.now
-is_answer κs a r s h = is_left _ _ _ _ _ h
+is_answer κs a r s h = is_left _ _ _ _ _ (refl, (refl, (refl, tt))) h
 
 -- a body is judged as `ours` judges it
 pub is_judge : (κs : Lifetimes.Lfts 1) (a : World.ArgsD judge.signature κs) (r : World.ResD judge.signature κs)
@@ -155,13 +161,13 @@ is_clear κs a r s h = ap cleared_in h
 pub is_reply_lem : (κs : Lifetimes.Lfts 1) (a : World.ArgsD reply.signature κs) (r : World.ResD reply.signature κs)
     (s : Clauses.AtExit (K.ended_of 1 reply_kinds.ps reply_kinds.r) κs) → reply_reads.Post κs a r s
     → wrote_in r s.1.1.1.0.now ≡ ours.reply a.0 a.1.0 a.1.1.0 a.1.1.1.0.now
-is_reply_lem κs a r s h = is_left _ _ _ _ _ h
+is_reply_lem κs a r s h = is_left _ _ _ _ _ (refl, (refl, (refl, tt))) h
 
 -- the running body is copied as `ours` copies it
 pub is_copy : (κs : Lifetimes.Lfts 1) (a : World.ArgsD copy_body.signature κs) (r : World.ResD copy_body.signature κs)
     (s : Clauses.AtExit (K.ended_of 1 copy_body_kinds.ps copy_body_kinds.r) κs) → copy_body_reads.Post κs a r s
     → wrote_in r s.1.0.now ≡ ours.copy a.0 a.1.0.now
-is_copy κs a r s h = is_left _ _ _ _ _ h
+is_copy κs a r s h = is_left _ _ _ _ _ (refl, (refl, tt)) h
 
 -- the bytes that the repeater gives back are those of `ours`
 pub is_repeat : (κs : Lifetimes.Lfts 1) (a : World.ArgsD repeat.signature κs) (r : World.ResD repeat.signature κs)

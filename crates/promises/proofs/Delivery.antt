@@ -13,7 +13,7 @@ use Rattle.basis.specs.Choice.{when, ◌or◌}
 use Rattle.basis.specs.Rows.{first_of}
 use Rattle.packet.specs.Mid.{is_forbidden, Allowed, mid_row}
 use Rattle.packet.specs.Wire.{fifth_of, total_of, part_of, packet_at, transmission_of}
-use Rattle.packet.specs.Write.{transmission_rows, answer_of, buffer_of, told_of as written_told}
+use Rattle.packet.specs.Write.{transmission_rows, buffer_of, written_of}
 use Rattle.packet.proofs.Parts.{transmission_length}
 use Rattle.packet.proofs.Stands.{at_length, packet_stands, count_stands}
 use Rattle.hear.specs.Hear.{told_of as outcome_told}
@@ -53,7 +53,7 @@ written mid id body out h =
 
     go : (m t u v w : Bool) → is_forbidden mid ≡ m → eqb (length body) 0 ≡ t → ltb 84 (length body) ≡ u → ltb 0x3F id ≡ v
         → ltb (length out) (length (transmission_of mid id body)) ≡ w
-        → (written_told (answer_of (rows m t u v w) (transmission_of mid id body))).number ≡ 0
+        → (written_of (rows m t u v w) (transmission_of mid id body)).number ≡ 0
         → Written mid id body out
     go true t u v w f a b c d e = absurd (omega arith)
     go false true u v w f a b c d e = absurd (omega arith)

@@ -13,7 +13,7 @@ use Rattle.basis.specs.Rows.{Row, ◌if◌, first_of}
 use Rattle.basis.proofs.Choices.{when_true, when_false}
 use Rattle.packet.specs.Mid.{is_forbidden, Allowed, mid_row}
 use Rattle.packet.specs.Wire.{query_of, reset_of, packet_at, transmission_of, reply_of}
-use Rattle.packet.specs.Write.{short_by, packet_rows, transmission_rows, answer_of, buffer_of, told_of as written_told}
+use Rattle.packet.specs.Write.{short_by, packet_rows, transmission_rows, buffer_of, written_of}
 use Rattle.packet.proofs.Guards.{mid_stops, mid_passes}
 use Rattle.reader.specs.Read.{told_of as read_told}
 use Rattle.reader.specs.declared.read.Reading.{Reading}
@@ -26,7 +26,7 @@ use Rattle.sign.specs.Sound.{sound_of}
 use Rattle.sign.specs.Tell.{says_of, says_rows}
 use Rattle.sign.proofs.Joining.{forbidden_receives}
 use Rattle.image.specs.Layout.{image_size, record_of}
-use Rattle.words.specs.Words.{words_of, wrote_of}
+use Rattle.words.specs.Words.{words_of, length_told}
 use Rattle.words.specs.Told.{answer_row, first_or, told_in}
 use Rattle.cabi.specs.Calls.{Tells, image_row, guarded, kept_of, receive_no}
 use Rattle.promises.specs.Unit.{Wrote, ours, left_by, heard_in}
@@ -35,7 +35,7 @@ use Rattle.promises.proofs.Before.{receives_as_before}
 
 -- what a writer leaves, by the number of its first row
 by : (bytes out : List ℕ) → ℕ → Wrote
-by bytes out n = record { told = written_told (answer_of n bytes); buffer = buffer_of n bytes out }
+by bytes out n = record { told = written_of n bytes; buffer = buffer_of n bytes out }
 
 -- a writer behind the guard
 stops : (mid : ℕ) (rows : List Row) (bytes out : List ℕ) → is_forbidden mid ≡ true → left_by (mid_row mid ∷ rows) bytes out ≡ denied out
@@ -107,7 +107,7 @@ module _ (image : List ℕ) (mid : ℕ) (bytes answer : List ℕ) (e : is_forbid
 -- a writer for C by the number of its first row
 by_19 : (rows : List Row) (bytes out : List ℕ) (r : ℕ) (after : List ℕ) → first_of rows ≡ 19 → Tells rows bytes out r after → (r ≡ 19) × (after ≡ out)
 by_19 rows bytes out r after e t =
-    (t.told ∙ ap (λ (k : ℕ). wrote_of (answer_of k bytes)) e, t.left ∙ ap (λ (k : ℕ). buffer_of k bytes out) e)
+    (t.told ∙ ap (λ (k : ℕ). length_told (written_of k bytes)) e, t.left ∙ ap (λ (k : ℕ). buffer_of k bytes out) e)
 
 pub guards_for_c : GuardsForC
 guards_for_c =

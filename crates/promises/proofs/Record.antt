@@ -13,7 +13,7 @@ use Rattle.basis.specs.Told.{Told}
 use Rattle.basis.proofs.Choices.{when_true}
 use Rattle.basis.proofs.Tests.{tests}
 use Rattle.packet.specs.Mid.{mid_row}
-use Rattle.packet.specs.Write.{short_by, answer_of, buffer_of, told_of as written_told}
+use Rattle.packet.specs.Write.{short_by, buffer_of, written_of}
 use Rattle.reader.specs.Read.{read_of}
 use Rattle.reader.specs.declared.read.Reading.TheVariants.{Normal}
 use Rattle.machine.specs.declared.Answer.TheVariants.{Idle}
@@ -104,7 +104,7 @@ tells : (s : Sign) → Good s → (rows : List Row) (bytes out : List ℕ) → L
 tells s good rows bytes out =
     let rest = first_of rows in
     let e : first_of (told_rows s rows) ≡ rest = ap (λ (t : Bool). when (not t) 16 rest) good.sound in
-    record { told = ap (λ (k : ℕ). written_told (answer_of k bytes)) e; buffer = ap (λ (k : ℕ). buffer_of k bytes out) e }
+    record { told = ap (λ (k : ℕ). written_of k bytes) e; buffer = ap (λ (k : ℕ). buffer_of k bytes out) e }
 
 -- the repeater
 ours_stretch : (body : List ℕ) (place len : ℕ) (standing : List ℕ) → (place ≡ 0 → ⊥) → place + len ≤ length body

@@ -8,7 +8,7 @@ use Rattle.basis.specs.Rows.{Row, first_of}
 use Rattle.basis.specs.Told.{no}
 use Rattle.packet.specs.Mid.{mid_row}
 use Rattle.packet.specs.Wire.{query_of, reset_of as reset_packet, packet_at, transmission_of, reply_of}
-use Rattle.packet.specs.Write.{short_by, packet_rows, transmission_rows, answer_of, buffer_of, told_of as written_told}
+use Rattle.packet.specs.Write.{short_by, packet_rows, transmission_rows, buffer_of, written_of}
 use Rattle.reply.specs.Reply.{reply_rows}
 use Rattle.machine.specs.Step.{told_of as answer_told}
 use Rattle.machine.specs.declared.Answer.{Answer}
@@ -52,13 +52,13 @@ stopped_is (Stopped n) h = refl
 leaves : (rows : List ℕ → List Row) (bytes : List ℕ) → Leaves (λ out. left_by (rows out) bytes out)
 leaves rows bytes out h = go (first_of (rows out)) h
   where
-    go : (k : ℕ) → ((written_told (answer_of k bytes)).number ≡ 0 → ⊥) → buffer_of k bytes out ≡ out
+    go : (k : ℕ) → ((written_of k bytes).number ≡ 0 → ⊥) → buffer_of k bytes out ≡ out
     go zero w = absurd (w refl)
     go (suc k) w = refl
 
 -- an unsound record is 16 before all else
 sixteen : (s : Sign) (rows : List Row) (bytes out : List ℕ) → sound_of s ≡ false → (left_by (told_rows s rows) bytes out).told ≡ no 16
-sixteen s rows bytes out e = ap (λ (t : Bool). written_told (answer_of (when (not t) 16 (first_of rows)) bytes)) e
+sixteen s rows bytes out e = ap (λ (t : Bool). written_of (when (not t) 16 (first_of rows)) bytes) e
 
 unsound_clears : (s : Sign) → sound_of s ≡ false → (cleared_in (cleared_of s)).told ≡ no 16
 unfolding cleared_of

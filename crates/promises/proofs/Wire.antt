@@ -15,7 +15,7 @@ use Rattle.basis.proofs.Laid.{take_laid, drop_laid}
 use Rattle.basis.proofs.Tests.{tests}
 use Rattle.packet.specs.Mid.{Allowed, mid_row}
 use Rattle.packet.specs.Wire.{fifth_of, query_of, reset_of, total_of, part_of, packet_at, transmission_of, reply_of}
-use Rattle.packet.specs.Write.{short_by, packet_rows, transmission_rows, answer_of, buffer_of, told_of as written_told}
+use Rattle.packet.specs.Write.{short_by, packet_rows, transmission_rows, buffer_of, written_of}
 use Rattle.packet.proofs.Parts.{part_length}
 use Rattle.packet.proofs.Stands.{at_length, part_stands}
 use Rattle.reader.specs.Read.{read_of, told_of as read_told}
@@ -54,7 +54,7 @@ module _ (mid id : ℕ) (body : List ℕ) (position : ℕ) (out : List ℕ) (all
       let fits : length part ≤ length (drop 5 p) = omega (arith, part_length body position, length-drop 5 p) in
       let laying : (ours.write mid id body position out).buffer ≡ laid p out = ap (λ (k : ℕ). buffer_of k p out) none in
       record {
-        count = ap (λ (k : ℕ). written_told (answer_of k p)) none;
+        count = ap (λ (k : ℕ). written_of k p) none;
         fields =
             ap (λ (x : List ℕ). read_told (read_of mid (take n x))) laying
             ∙ ap (λ (x : List ℕ). read_told (read_of mid x)) (take_laid p out)
@@ -82,7 +82,7 @@ module _ (mid last : ℕ) (busy sink : Bool) (out : List ℕ) (allowed : Allowed
       let laying : (ours.answer mid last busy sink out).buffer ≡ laid p out = ap (λ (k : ℕ). buffer_of k p out) free in
       let front : take 8 (ours.answer mid last busy sink out).buffer ≡ p = ap (take 8) laying ∙ take_laid p out in
       record {
-        count = ap (λ (k : ℕ). written_told (answer_of k p)) free;
+        count = ap (λ (k : ℕ). written_of k p) free;
         told = ap (λ (x : List ℕ). status_told (heard_of mid x)) front ∙ ap status_told (reply_reads mid last busy sink allowed known);
         behind = ap (drop 8) laying ∙ drop_laid p out;
         apart = λ m z.

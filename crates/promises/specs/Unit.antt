@@ -6,7 +6,7 @@ use Rattle.basis.specs.Rows.{Row, first_of}
 use Rattle.basis.specs.Told.{Told}
 use Rattle.packet.specs.Mid.{mid_row}
 use Rattle.packet.specs.Wire.{query_of, reset_of, packet_at, transmission_of, reply_of}
-use Rattle.packet.specs.Write.{short_by, packet_rows, transmission_rows, answer_of, buffer_of, told_of as written_told}
+use Rattle.packet.specs.Write.{short_by, packet_rows, transmission_rows, buffer_of, written_of}
 use Rattle.reader.specs.Read.{read_of, told_of as read_told}
 use Rattle.reply.specs.Reply.{heard_of, reply_rows, told_of as status_told}
 use Rattle.judge.specs.Verdict.{judge_of, told_of as verdict_told}
@@ -70,7 +70,7 @@ value_at i t = get_or t.values i 0
 
 -- what a writer leaves that refuses by these rows and writes these bytes
 abbrev pub left_by : List Row → (bytes out : List ℕ) → Wrote
-left_by rows bytes out = record { told = written_told (answer_of (first_of rows) bytes); buffer = buffer_of (first_of rows) bytes out }
+left_by rows bytes out = record { told = written_of (first_of rows) bytes; buffer = buffer_of (first_of rows) bytes out }
 
 -- our answers in the rules' numbers; the body is as long as the call says
 abbrev pub heard_in : Received → Heard Sign

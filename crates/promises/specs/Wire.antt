@@ -4,11 +4,10 @@
 use Rattle.std.specs.Prelude.{ℕ, ◌≤◌, ◌<◌, Bool, true, List, [], ◌∷◌, ◌≡◌, length, take, drop}
 use Rattle.basis.specs.Bytes.{Bytes}
 use Rattle.basis.specs.Rows.{Row, first_of}
-use Rattle.basis.specs.Told.{no}
+use Rattle.basis.specs.Told.{yes, no}
 use Rattle.packet.specs.Mid.{Allowed, mid_row}
 use Rattle.packet.specs.Wire.{fifth_of, packet_of, query_of, reset_of, total_of, part_of, packet_at, transmission_of, reply_of}
-use Rattle.packet.specs.Write.{right_fields, short_by, packet_rows, transmission_rows, answer_of, buffer_of, told_of as written_told}
-use Rattle.packet.specs.declared.write.Written.TheVariants.{Wrote as WroteBytes}
+use Rattle.packet.specs.Write.{right_fields, short_by, packet_rows, transmission_rows, buffer_of, written_of}
 use Rattle.reader.specs.Read.{Lowest, told_of as read_told}
 use Rattle.reader.specs.declared.read.Reading.TheVariants.{Query, Reset, Normal}
 use Rattle.reply.specs.Reply.{is_last, reply_rows, told_of as status_told}
@@ -37,7 +36,7 @@ pub record Hears {R : Type 0} (u : Calls R) : Type 0 where
 
 -- a writer refuses by the first of these rows and leaves the buffer, or writes these bytes at its front and leaves the rest
 pub record Lays (rows : List Row) (bytes out : List ℕ) (w : Wrote) : Type 0 where
-  pub told : w.told ≡ written_told (answer_of (first_of rows) bytes)
+  pub told : w.told ≡ written_of (first_of rows) bytes
   pub buffer : w.buffer ≡ buffer_of (first_of rows) bytes out
 
 pub record Writes {R : Type 0} (u : Calls R) : Type 0 where
@@ -51,14 +50,14 @@ pub record Writes {R : Type 0} (u : Calls R) : Type 0 where
 
 -- a packet of a body that is written into a buffer with room for it
 pub record ReadsBack {R : Type 0} (u : Calls R) (mid id : ℕ) (body : List ℕ) (position : ℕ) (out : List ℕ) (n : ℕ) : Type 0 where
-  pub count : (u.write mid id body position out).told ≡ written_told (WroteBytes n)
+  pub count : (u.write mid id body position out).told ≡ yes (n ∷ [])
   pub fields : u.read mid (take n (u.write mid id body position out).buffer) ≡ read_told (Normal id (total_of body) position (length (part_of body position)))
   pub carried : take (length (part_of body position)) (drop 5 (u.write mid id body position out).buffer) ≡ part_of body position
   pub behind : drop n (u.write mid id body position out).buffer ≡ drop n out
 
 -- a reply that is written into a buffer with room for it; to no sign is it a packet
 pub record HearsBack {R : Type 0} (u : Calls R) (mid last : ℕ) (busy sink : Bool) (out : List ℕ) : Type 0 where
-  pub count : (u.answer mid last busy sink out).told ≡ written_told (WroteBytes 8)
+  pub count : (u.answer mid last busy sink out).told ≡ yes (8 ∷ [])
   pub told : u.hear mid (take 8 (u.answer mid last busy sink out).buffer) ≡ status_told (HeardReply last busy sink)
   pub behind : drop 8 (u.answer mid last busy sink out).buffer ≡ drop 8 out
   pub apart : (m : ℕ) → (u.read m (take 8 (u.answer mid last busy sink out).buffer)).number ≡ 0 → ⊥

@@ -16,7 +16,7 @@ use Rattle.basis.proofs.Choices.{when_true, when_false}
 use Rattle.basis.proofs.Tests.{tests}
 use Rattle.packet.specs.Wire.{check_of, sealed, turned, state_of, aux_of, reply_of}
 use Rattle.packet.specs.Write.{Writes}
-use Rattle.packet.specs.declared.write.Written.TheVariants.{Wrote}
+use Rattle.std.specs.Prelude.{Ok}
 use Rattle.packet.proofs.Laying.{seal_lays, seal_laid}
 use Rattle.packet.proofs.Writing.{wrote}
 use Rattle.reply.specs.Reply.{is_last, reply_rows}
@@ -35,7 +35,7 @@ front_lays front o y check six fits ey ec =
 pub reply_wrote : (mid last : ℕ) (busy sink : Bool) (o y : List ℕ) (from state aux check : ℕ) → is_last last ≡ true → 8 ≤ length o
     → from ≡ turned mid → state ≡ state_of busy → aux ≡ aux_of sink
     → y ≡ (from ∷ 0x7F ∷ 8 ∷ last ∷ state ∷ aux ∷ []) ++ drop 6 o → check ≡ check_of (from ∷ 0x7F ∷ 8 ∷ last ∷ state ∷ aux ∷ [])
-    → Writes (reply_rows mid last busy sink o) (reply_of mid last busy sink) o (Wrote 8) (set (set y 6 0) 7 check)
+    → Writes (reply_rows mid last busy sink o) (reply_of mid last busy sink) o (Ok 8) (set (set y 6 0) 7 check)
 unfolding reply_of laid
 reply_wrote mid last busy sink o y from state aux check known fits e1 e2 e3 ey ec =
     let front = from ∷ 0x7F ∷ 8 ∷ last ∷ state ∷ aux ∷ [] in

@@ -6,17 +6,18 @@ ghost use Rattle.packet.specs.Write.{Writes};
 ghost use Rattle.reply.specs.Reply.{reply_rows};
 
 use crate::letters::{aux_letter, is_last, state_letter, turned_mid};
-use packet::{Written, checksum, forbidden};
+use packet::{checksum, forbidden};
+use refusal::Refusal;
 
 // Lays a reply of these fields; 32 for an ID that no sign completes, 34 for want of room. The MID is not judged here.
-fn lay_reply(mid: u8, last: u8, busy: bool, sink: bool, out: &mut [u8]) -> Written
+fn lay_reply(mid: u8, last: u8, busy: bool, sink: bool, out: &mut [u8]) -> Result<usize, Refusal>
     ensures { Writes (reply_rows mid last busy sink out.old) (reply_of mid last busy sink) out.old result out.new }
 {
     if !is_last(last) {
-        return Written::Refused(32);
+        return Err(Refusal::WrongId);
     }
     if out.len() < 8 {
-        return Written::Refused(34);
+        return Err(Refusal::NoRoom);
     }
     let from = turned_mid(mid);
     let state = state_letter(busy);
@@ -25,15 +26,21 @@ fn lay_reply(mid: u8, last: u8, busy: bool, sink: bool, out: &mut [u8]) -> Writt
     out[..6].copy_from_slice(&front);
     out[6] = 0;
     out[7] = checksum(&front);
-    Written::Wrote(8)
+    Ok(8)
 }
 
 // Lays a reply of the sign with this MID.
-pub fn write_reply(mid: u8, last: u8, busy: bool, sink: bool, out: &mut [u8]) -> Written
+pub fn write_reply(
+    mid: u8,
+    last: u8,
+    busy: bool,
+    sink: bool,
+    out: &mut [u8],
+) -> Result<usize, Refusal>
     ensures { Writes (mid_row mid ∷ reply_rows mid last busy sink out.old) (reply_of mid last busy sink) out.old result out.new }
 {
     if forbidden(mid) {
-        return Written::Refused(19);
+        return Err(Refusal::ForbiddenMid);
     }
     lay_reply(mid, last, busy, sink, out)
 }

@@ -17,22 +17,23 @@ use Rattle.reply.specs.Reply.{reply_rows}
 use Rattle.packet.specs.Mid.{mid_row}
 use Rattle.packet.specs.Wire.{reply_of}
 use Rattle.packet.specs.Write.{short_by, answer_of, buffer_of, Writes}
-use Rattle.packet.specs.declared.write.Written.{Written}
-use Rattle.packet.specs.declared.write.Written.TheVariants.{Wrote, Refused}
+use Rattle.std.specs.Prelude.{Result, Ok, Err}
+use Rattle.refusal.specs.declared.Refusal.{Refusal}
+use Rattle.refusal.specs.declared.Refusal.TheVariants.{Unsound, NoRoom}
 use Rattle.packet.proofs.Writing.{refused, wrote}
 use Rattle.sign.specs.Sound.{sound_of}
 use Rattle.sign.specs.Tell.{busy_of, says_of, told_rows, says_rows, copy_rows}
 use Rattle.sign.specs.declared.Sign.{Sign}
 
 -- an unsound record is 16
-pub unsound_tells : (s : Sign) (rows : List Row) (bytes out : List ℕ) → sound_of s ≡ false → Writes (told_rows s rows) bytes out (Refused 16) out
+pub unsound_tells : (s : Sign) (rows : List Row) (bytes out : List ℕ) → sound_of s ≡ false → Writes (told_rows s rows) bytes out (Err Unsound) out
 unsound_tells s rows bytes out e = refused (told_rows s rows) bytes out 15 (ap (λ (t : Bool). first_of (16 if not t ∷ rows)) e)
 
 -- of a sound record the other rows decide
 sound_rows : (s : Sign) (rows : List Row) → sound_of s ≡ true → first_of (told_rows s rows) ≡ first_of rows
 sound_rows s rows e = ap (λ (t : Bool). first_of (16 if not t ∷ rows)) e
 
-pub reply_tells : (s : Sign) (mid : ℕ) (aux : Bool) (out after : List ℕ) (r : Written) (last : ℕ) → sound_of s ≡ true → completed_sound s.completed ≡ true
+pub reply_tells : (s : Sign) (mid : ℕ) (aux : Bool) (out after : List ℕ) (r : Result ℕ Refusal) (last : ℕ) → sound_of s ≡ true → completed_sound s.completed ≡ true
     → last ≡ last_of s.completed
     → Writes (mid_row mid ∷ reply_rows mid last (busy_of s) aux out) (reply_of mid last (busy_of s) aux) out r after
     → Writes (says_rows s mid aux out) (says_of s mid aux) out r after
@@ -48,14 +49,14 @@ module _ (s : Sign) (out : List ℕ) (sound : sound_of s ≡ true) (room : s.run
   size : length (body_of s.room s.run) ≡ s.run.len
   size = length-take-le s.run.len s.room room
 
-  pub short_tells : length out < s.run.len → Writes (copy_rows s out) (body_of s.room s.run) out (Refused 34) out
+  pub short_tells : length out < s.run.len → Writes (copy_rows s out) (body_of s.room s.run) out (Err NoRoom) out
   short_tells h =
       refused (copy_rows s out) (body_of s.room s.run) out 33
       (sound_rows s (short_by (body_of s.room s.run) out ∷ []) sound ∙ ap (λ (t : Bool). when t 34 0) (lt-ltb (length out) (length (body_of s.room s.run)) (omega (arith, size))))
 
   pub copy_tells : (after : List ℕ) → s.run.len ≤ length out
       → after ≡ take (length (body_of s.room s.run)) (body_of s.room s.run) ++ drop (length (body_of s.room s.run)) out
-      → Writes (copy_rows s out) (body_of s.room s.run) out (Wrote s.run.len) after
+      → Writes (copy_rows s out) (body_of s.room s.run) out (Ok s.run.len) after
   unfolding laid
   copy_tells after h e =
       wrote (copy_rows s out) (body_of s.room s.run) out s.run.len after

@@ -4,16 +4,16 @@ ghost use Rattle.packet.specs.Write.{Writes};
 ghost use Rattle.sign.specs.Tell.{says_of, running_body, says_rows, copy_rows};
 
 use crate::Sign;
-use packet::Written;
+use refusal::Refusal;
 use reply::write_reply;
 
 impl Sign {
     // Writes the reply to a query, with the AUX pin as the caller reads it.
-    pub fn reply(self, mid: u8, aux: bool, out: &mut [u8]) -> Written
+    pub fn reply(self, mid: u8, aux: bool, out: &mut [u8]) -> Result<usize, Refusal>
         ensures { Writes (says_rows self mid aux out.old) (says_of self mid aux) out.old result out.new }
     {
         if !self.sound() {
-            return Written::Refused(16);
+            return Err(Refusal::Unsound);
         }
         let completed = self.completed;
         let busy = self.run.len != 0;
@@ -21,18 +21,18 @@ impl Sign {
     }
 
     // Copies the running body to the buffer's front, and tells its length.
-    pub fn copy_body(self, out: &mut [u8]) -> Written
+    pub fn copy_body(self, out: &mut [u8]) -> Result<usize, Refusal>
         ensures { Writes (copy_rows self out.old) (running_body self) out.old result out.new }
     {
         if !self.sound() {
-            return Written::Refused(16);
+            return Err(Refusal::Unsound);
         }
         let room = self.room;
         let len = self.run.len;
         if out.len() < len {
-            return Written::Refused(34);
+            return Err(Refusal::NoRoom);
         }
         out[..len].copy_from_slice(&room[..len]);
-        Written::Wrote(len)
+        Ok(len)
     }
 }

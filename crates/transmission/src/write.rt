@@ -5,43 +5,42 @@ ghost use Rattle.packet.specs.Mid.{Allowed, mid_row};
 ghost use Rattle.packet.specs.Wire.{transmission_of};
 ghost use Rattle.packet.specs.Write.{Writes, transmission_rows};
 
-use packet::{Written, forbidden, write_packet};
+use packet::{forbidden, write_packet};
+use refusal::Refusal;
 
 // All packets of a body, each laid into the buffer behind the one before, for a MID that is not forbidden.
-fn write_all(mid: u8, id: u8, body: &[u8], out: &mut [u8]) -> Written
+fn write_all(mid: u8, id: u8, body: &[u8], out: &mut [u8]) -> Result<usize, Refusal>
     requires { Allowed mid }
     ensures { Writes (transmission_rows mid id body.now out.old) (transmission_of mid id body.now) out.old result out.new }
 {
     let n = body.len();
     if n == 0 {
-        return Written::Refused(31);
+        return Err(Refusal::WrongBody);
     }
     if 84 < n {
-        return Written::Refused(31);
+        return Err(Refusal::WrongBody);
     }
     if 0x3f < id {
-        return Written::Refused(32);
+        return Err(Refusal::WrongId);
     }
     let total = (n + 13) / 14;
     let size = 7 * total + n;
     if out.len() < size {
-        return Written::Refused(34);
+        return Err(Refusal::NoRoom);
     }
-    let mut position: u8 = 0;
-    while (position as usize) < total {
-        let at = 21 * position as usize;
-        write_packet(mid, id, body, position, &mut out[at..]);
-        position += 1;
+    for position in 0..total {
+        let at = 21 * position;
+        write_packet(mid, id, body, position as u8, &mut out[at..])?;
     }
-    Written::Wrote(size)
+    Ok(size)
 }
 
 // All packets of a body, back to back.
-pub fn write_transmission(mid: u8, id: u8, body: &[u8], out: &mut [u8]) -> Written
+pub fn write_transmission(mid: u8, id: u8, body: &[u8], out: &mut [u8]) -> Result<usize, Refusal>
     ensures { Writes (mid_row mid ∷ transmission_rows mid id body.now out.old) (transmission_of mid id body.now) out.old result out.new }
 {
     if forbidden(mid) {
-        return Written::Refused(19);
+        return Err(Refusal::ForbiddenMid);
     }
     write_all(mid, id, body, out)
 }

@@ -1,7 +1,8 @@
 -- How numbers stand in a lent answer and in a call's result.
-use Rattle.std.specs.Prelude.{ℕ, ◌+◌, ◌*◌, ◌/◌, ◌%◌, List, [], ◌∷◌, ◌++◌, get_or}
+use Rattle.std.specs.Prelude.{ℕ, ◌+◌, ◌*◌, ◌/◌, ◌%◌, List, [], ◌∷◌, ◌++◌, get_or, Result}
+use Rattle.basis.specs.Told.{Told}
 use Rattle.packet.specs.Write.{told_of}
-use Rattle.packet.specs.declared.write.Written.{Written}
+use Rattle.refusal.specs.declared.Refusal.{Refusal}
 
 -- a word is four bytes, lowest first
 abbrev pub word_of : ℕ → List ℕ
@@ -17,5 +18,8 @@ abbrev pub result_of : (number value : ℕ) → ℕ
 result_of number value = number + 256 * (value % 16777216)
 
 -- a writer's result: the number for no, and the length written
-abbrev pub wrote_of : Written → ℕ
-wrote_of w = result_of (told_of w).number (get_or (told_of w).values 0 0)
+abbrev pub length_told : Told → ℕ
+length_told t = result_of t.number (get_or t.values 0 0)
+
+abbrev pub wrote_of : Result ℕ Refusal → ℕ
+wrote_of w = length_told (told_of w)

@@ -2,7 +2,7 @@
 ghost use Rattle.std.specs.Prelude.{◌≡◌};
 ghost use Rattle.words.specs.Words.{result_of, wrote_of};
 
-use packet::Written;
+use refusal::Refusal;
 
 // The number for no in the low byte, and a value above it.
 pub(crate) fn result(number: u8, value: usize) -> u32
@@ -12,11 +12,11 @@ pub(crate) fn result(number: u8, value: usize) -> u32
 }
 
 // The result of a writer.
-pub fn tell_written(written: Written) -> u32
+pub fn tell_written(written: Result<usize, Refusal>) -> u32
     ensures { result ≡ wrote_of written }
 {
     match written {
-        Written::Wrote(n) => result(0, n),
-        Written::Refused(n) => result(n, 0),
+        Ok(n) => result(0, n),
+        Err(e) => result(e.number(), 0),
     }
 }

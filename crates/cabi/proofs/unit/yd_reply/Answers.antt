@@ -1,4 +1,5 @@
 -- `yd_reply` is the reply of the record in the image.
+use mathlib.Core.Path.{refl}
 use Rattle.cabi.proofs.Lays.{sign_tells}
 use lib.Dec.{eqb}
 use mathlib.Core.Bool.{not}
@@ -14,4 +15,4 @@ returns-then-image-ne-SIZE c = search tests
 pub returns : goal.returns
 returns c =
     let a = c.args in
-    sign_tells (λ (s : Sign). says_rows s a.mid (not (eqb a.aux 0)) a.out.now) (λ (s : Sign). says_of s a.mid (not (eqb a.aux 0))) a.image.now a.out.now (search rules) c.load-sign.ensures c.reply-written.ensures c.tell_written.ensures
+    sign_tells (λ (s : Sign). says_rows s a.mid (not (eqb a.aux 0)) a.out.now) (λ (s : Sign). says_of s a.mid (not (eqb a.aux 0))) a.image.now a.out.now (search rules) (refl, (refl, (refl, tt))) c.load-sign.ensures c.reply-written.ensures c.tell_written.ensures

@@ -20,18 +20,18 @@ pub returns-then-out-len : goal.returns-then-out-len
 returns-then-out-len c =
     let a = c.args in
     packet_refused a.mid a.id a.body.now a.out.now (search rules) (search rules) (search rules) a.position
-    c.lesser-len.result
+    c.min-len.result
     (search rules)
-    c.lesser-len.ensures
+    c.min-len.ensures
     (search rules)
 
 pub returns : goal.returns
 returns c =
     let a = c.args in
     packet_wrote a.mid a.id a.body.now a.out.now (search rules) (search rules) (search rules) a.position
-    c.lesser-len.result
+    c.min-len.result
     (search rules)
-    c.lesser-len.ensures
+    c.min-len.ensures
     _
     _
     (search rules)

@@ -5,7 +5,7 @@ use borrow.Author.Rules.{rules}
 use Rattle.basis.specs.Bytes.{laid}
 use Rattle.basis.proofs.Tests.{tests}
 use Rattle.packet.specs.Wire.{total_of, packets_of}
-use Rattle.packet.proofs.Writing.{next_packet, transmission_refused, transmission_wrote}
+use Rattle.packet.proofs.Writing.{never_refused, next_packet, transmission_refused, transmission_wrote}
 use Rattle.transmission.proofs.write.write_all.Goals as goal
 
 pub returns-then-n-eq0 : goal.returns-then-n-eq0
@@ -26,18 +26,28 @@ pub loop-position-init : goal.loop-position-init
 unfolding laid packets_of
 loop-position-init c = search rules
 
+pub returns-in_err-write_packet : goal.returns-in_err-write_packet
+returns-in_err-write_packet c =
+    let a = c.args in
+    let l = c.loop-position in
+    absurd
+    (never_refused a.mid a.id a.body.now a.out.now (search rules) (search rules) (search rules) l.out c.write_packet.new.out l.position c.requires
+    (search rules)
+    (search rules)
+    l.invariant.0
+    _
+    c.in_err-write_packet.ensures)
+
 pub loop-position-preserved : goal.loop-position-preserved
 loop-position-preserved c =
     let a = c.args in
-    let l = c.loop-position in (
-      search rules,
-      next_packet a.mid a.id a.body.now a.out.now (search rules) (search rules) (search rules) l.out c.write_packet.new.out l.position c.write_packet.result
-          c.requires
-          (search rules)
-          (search rules)
-          l.invariant.1.0
-          c.write_packet.ensures,
-    )
+    let l = c.loop-position in
+    next_packet a.mid a.id a.body.now a.out.now (search rules) (search rules) (search rules) l.out c.write_packet.new.out l.position c.requires
+    (search rules)
+    (search rules)
+    l.invariant.0
+    c.write_packet.result
+    c.write_packet.ensures
 
 pub returns : goal.returns
 returns c =
@@ -45,4 +55,4 @@ returns c =
     let l = c.loop-position in
     let all : l.position ≡ total_of a.body.now = omega arith in
     transmission_wrote a.mid a.id a.body.now a.out.now (search rules) (search rules) (search rules) l.out (search rules)
-    (l.invariant.1.0 ∙ ap (λ (n : ℕ). laid (packets_of a.mid a.id a.body.now n) a.out.now) all)
+    (l.invariant.0 ∙ ap (λ (n : ℕ). laid (packets_of a.mid a.id a.body.now n) a.out.now) all)

@@ -5,7 +5,7 @@ ghost use Rattle.perform.specs.Price.{doing_of, streams_of, acts_of, shifts_of, 
 use crate::Settings;
 use measure::{Widths, fits, start_column};
 use program::Kind;
-use units::{Millis, Scans, Shifts};
+use units::{Amount, Millis, Scans, Shifts};
 
 // What one step answers: kind, number as written, text place and length, start column, scans, milliseconds.
 #[derive(Clone, Copy)]

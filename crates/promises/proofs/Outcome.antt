@@ -122,33 +122,60 @@ use Rattle.totals.proofs.Totals.plus.Reads as totals_totals_plus_reads
 use Rattle.totals.specs.contracts.Totals.times as totals_totals_times
 use Rattle.totals.proofs.Totals.times.Kinds as totals_totals_times_kinds
 use Rattle.totals.proofs.Totals.times.Reads as totals_totals_times_reads
-use Rattle.units.specs.contracts.Steps.add as units_steps_add
-use Rattle.units.proofs.Steps.add.Kinds as units_steps_add_kinds
-use Rattle.units.proofs.Steps.add.Reads as units_steps_add_reads
-use Rattle.units.specs.contracts.Steps.times as units_steps_times
-use Rattle.units.proofs.Steps.times.Kinds as units_steps_times_kinds
-use Rattle.units.proofs.Steps.times.Reads as units_steps_times_reads
-use Rattle.units.specs.contracts.Shifts.add as units_shifts_add
-use Rattle.units.proofs.Shifts.add.Kinds as units_shifts_add_kinds
-use Rattle.units.proofs.Shifts.add.Reads as units_shifts_add_reads
+use Rattle.units.specs.contracts.StepsAmount.add as units_steps_add
+use Rattle.units.proofs.StepsAmount.add.Kinds as units_steps_add_kinds
+use Rattle.units.proofs.StepsAmount.add.Reads as units_steps_add_reads
+use Rattle.units.specs.contracts.StepsAmount.times as units_steps_times
+use Rattle.units.proofs.StepsAmount.times.Kinds as units_steps_times_kinds
+use Rattle.units.proofs.StepsAmount.times.Reads as units_steps_times_reads
+use Rattle.units.specs.contracts.StepsAmount.of as units_steps_of
+use Rattle.units.proofs.StepsAmount.of.Kinds as units_steps_of_kinds
+use Rattle.units.proofs.StepsAmount.of.Reads as units_steps_of_reads
+use Rattle.units.specs.contracts.StepsAmount.number as units_steps_number
+use Rattle.units.proofs.StepsAmount.number.Kinds as units_steps_number_kinds
+use Rattle.units.proofs.StepsAmount.number.Reads as units_steps_number_reads
+use Rattle.units.specs.contracts.ShiftsAmount.add as units_shifts_add
+use Rattle.units.proofs.ShiftsAmount.add.Kinds as units_shifts_add_kinds
+use Rattle.units.proofs.ShiftsAmount.add.Reads as units_shifts_add_reads
+use Rattle.units.specs.contracts.ShiftsAmount.times as units_shifts_times
+use Rattle.units.proofs.ShiftsAmount.times.Kinds as units_shifts_times_kinds
+use Rattle.units.proofs.ShiftsAmount.times.Reads as units_shifts_times_reads
+use Rattle.units.specs.contracts.ShiftsAmount.of as units_shifts_of
+use Rattle.units.proofs.ShiftsAmount.of.Kinds as units_shifts_of_kinds
+use Rattle.units.proofs.ShiftsAmount.of.Reads as units_shifts_of_reads
+use Rattle.units.specs.contracts.ShiftsAmount.number as units_shifts_number
+use Rattle.units.proofs.ShiftsAmount.number.Kinds as units_shifts_number_kinds
+use Rattle.units.proofs.ShiftsAmount.number.Reads as units_shifts_number_reads
 use Rattle.units.specs.contracts.Shifts.scans as units_shifts_scans
 use Rattle.units.proofs.Shifts.scans.Kinds as units_shifts_scans_kinds
 use Rattle.units.proofs.Shifts.scans.Reads as units_shifts_scans_reads
-use Rattle.units.specs.contracts.Scans.add as units_scans_add
-use Rattle.units.proofs.Scans.add.Kinds as units_scans_add_kinds
-use Rattle.units.proofs.Scans.add.Reads as units_scans_add_reads
-use Rattle.units.specs.contracts.Scans.times as units_scans_times
-use Rattle.units.proofs.Scans.times.Kinds as units_scans_times_kinds
-use Rattle.units.proofs.Scans.times.Reads as units_scans_times_reads
+use Rattle.units.specs.contracts.ScansAmount.add as units_scans_add
+use Rattle.units.proofs.ScansAmount.add.Kinds as units_scans_add_kinds
+use Rattle.units.proofs.ScansAmount.add.Reads as units_scans_add_reads
+use Rattle.units.specs.contracts.ScansAmount.times as units_scans_times
+use Rattle.units.proofs.ScansAmount.times.Kinds as units_scans_times_kinds
+use Rattle.units.proofs.ScansAmount.times.Reads as units_scans_times_reads
+use Rattle.units.specs.contracts.ScansAmount.of as units_scans_of
+use Rattle.units.proofs.ScansAmount.of.Kinds as units_scans_of_kinds
+use Rattle.units.proofs.ScansAmount.of.Reads as units_scans_of_reads
+use Rattle.units.specs.contracts.ScansAmount.number as units_scans_number
+use Rattle.units.proofs.ScansAmount.number.Kinds as units_scans_number_kinds
+use Rattle.units.proofs.ScansAmount.number.Reads as units_scans_number_reads
 use Rattle.units.specs.contracts.Scans.millis as units_scans_millis
 use Rattle.units.proofs.Scans.millis.Kinds as units_scans_millis_kinds
 use Rattle.units.proofs.Scans.millis.Reads as units_scans_millis_reads
-use Rattle.units.specs.contracts.Millis.add as units_millis_add
-use Rattle.units.proofs.Millis.add.Kinds as units_millis_add_kinds
-use Rattle.units.proofs.Millis.add.Reads as units_millis_add_reads
-use Rattle.units.specs.contracts.Millis.times as units_millis_times
-use Rattle.units.proofs.Millis.times.Kinds as units_millis_times_kinds
-use Rattle.units.proofs.Millis.times.Reads as units_millis_times_reads
+use Rattle.units.specs.contracts.MillisAmount.add as units_millis_add
+use Rattle.units.proofs.MillisAmount.add.Kinds as units_millis_add_kinds
+use Rattle.units.proofs.MillisAmount.add.Reads as units_millis_add_reads
+use Rattle.units.specs.contracts.MillisAmount.times as units_millis_times
+use Rattle.units.proofs.MillisAmount.times.Kinds as units_millis_times_kinds
+use Rattle.units.proofs.MillisAmount.times.Reads as units_millis_times_reads
+use Rattle.units.specs.contracts.MillisAmount.of as units_millis_of
+use Rattle.units.proofs.MillisAmount.of.Kinds as units_millis_of_kinds
+use Rattle.units.proofs.MillisAmount.of.Reads as units_millis_of_reads
+use Rattle.units.specs.contracts.MillisAmount.number as units_millis_number
+use Rattle.units.proofs.MillisAmount.number.Kinds as units_millis_number_kinds
+use Rattle.units.proofs.MillisAmount.number.Reads as units_millis_number_reads
 use Rattle.units.specs.contracts.Millis.tenths as units_millis_tenths
 use Rattle.units.proofs.Millis.tenths.Kinds as units_millis_tenths_kinds
 use Rattle.units.proofs.Millis.tenths.Reads as units_millis_tenths_reads
@@ -385,9 +412,29 @@ pub one_units_steps_times : (κs : Lifetimes.Lfts 0) (a : World.ArgsD units_step
     (s s' : Clauses.AtExit (K.ended_of 0 units_steps_times_kinds.ps units_steps_times_kinds.r) κs) → units_steps_times_reads.Post κs a r s → units_steps_times_reads.Post κs a r' s' → r.0 ≡ r'.0
 one_units_steps_times κs a r r' s s' h h' = one h h'
 
+pub one_units_steps_of : (κs : Lifetimes.Lfts 0) (a : World.ArgsD units_steps_of.signature κs) (r r' : World.ResD units_steps_of.signature κs)
+    (s s' : Clauses.AtExit (K.ended_of 0 units_steps_of_kinds.ps units_steps_of_kinds.r) κs) → units_steps_of_reads.Post κs a r s → units_steps_of_reads.Post κs a r' s' → r.0 ≡ r'.0
+one_units_steps_of κs a r r' s s' h h' = one h h'
+
+pub one_units_steps_number : (κs : Lifetimes.Lfts 0) (a : World.ArgsD units_steps_number.signature κs) (r r' : World.ResD units_steps_number.signature κs)
+    (s s' : Clauses.AtExit (K.ended_of 0 units_steps_number_kinds.ps units_steps_number_kinds.r) κs) → units_steps_number_reads.Post κs a r s → units_steps_number_reads.Post κs a r' s' → r ≡ r'
+one_units_steps_number κs a r r' s s' h h' = one h h'
+
 pub one_units_shifts_add : (κs : Lifetimes.Lfts 0) (a : World.ArgsD units_shifts_add.signature κs) (r r' : World.ResD units_shifts_add.signature κs)
     (s s' : Clauses.AtExit (K.ended_of 0 units_shifts_add_kinds.ps units_shifts_add_kinds.r) κs) → units_shifts_add_reads.Post κs a r s → units_shifts_add_reads.Post κs a r' s' → r.0 ≡ r'.0
 one_units_shifts_add κs a r r' s s' h h' = one h h'
+
+pub one_units_shifts_times : (κs : Lifetimes.Lfts 0) (a : World.ArgsD units_shifts_times.signature κs) (r r' : World.ResD units_shifts_times.signature κs)
+    (s s' : Clauses.AtExit (K.ended_of 0 units_shifts_times_kinds.ps units_shifts_times_kinds.r) κs) → units_shifts_times_reads.Post κs a r s → units_shifts_times_reads.Post κs a r' s' → r.0 ≡ r'.0
+one_units_shifts_times κs a r r' s s' h h' = one h h'
+
+pub one_units_shifts_of : (κs : Lifetimes.Lfts 0) (a : World.ArgsD units_shifts_of.signature κs) (r r' : World.ResD units_shifts_of.signature κs)
+    (s s' : Clauses.AtExit (K.ended_of 0 units_shifts_of_kinds.ps units_shifts_of_kinds.r) κs) → units_shifts_of_reads.Post κs a r s → units_shifts_of_reads.Post κs a r' s' → r.0 ≡ r'.0
+one_units_shifts_of κs a r r' s s' h h' = one h h'
+
+pub one_units_shifts_number : (κs : Lifetimes.Lfts 0) (a : World.ArgsD units_shifts_number.signature κs) (r r' : World.ResD units_shifts_number.signature κs)
+    (s s' : Clauses.AtExit (K.ended_of 0 units_shifts_number_kinds.ps units_shifts_number_kinds.r) κs) → units_shifts_number_reads.Post κs a r s → units_shifts_number_reads.Post κs a r' s' → r ≡ r'
+one_units_shifts_number κs a r r' s s' h h' = one h h'
 
 pub one_units_shifts_scans : (κs : Lifetimes.Lfts 0) (a : World.ArgsD units_shifts_scans.signature κs) (r r' : World.ResD units_shifts_scans.signature κs)
     (s s' : Clauses.AtExit (K.ended_of 0 units_shifts_scans_kinds.ps units_shifts_scans_kinds.r) κs) → units_shifts_scans_reads.Post κs a r s → units_shifts_scans_reads.Post κs a r' s' → r.0 ≡ r'.0
@@ -401,6 +448,14 @@ pub one_units_scans_times : (κs : Lifetimes.Lfts 0) (a : World.ArgsD units_scan
     (s s' : Clauses.AtExit (K.ended_of 0 units_scans_times_kinds.ps units_scans_times_kinds.r) κs) → units_scans_times_reads.Post κs a r s → units_scans_times_reads.Post κs a r' s' → r.0 ≡ r'.0
 one_units_scans_times κs a r r' s s' h h' = one h h'
 
+pub one_units_scans_of : (κs : Lifetimes.Lfts 0) (a : World.ArgsD units_scans_of.signature κs) (r r' : World.ResD units_scans_of.signature κs)
+    (s s' : Clauses.AtExit (K.ended_of 0 units_scans_of_kinds.ps units_scans_of_kinds.r) κs) → units_scans_of_reads.Post κs a r s → units_scans_of_reads.Post κs a r' s' → r.0 ≡ r'.0
+one_units_scans_of κs a r r' s s' h h' = one h h'
+
+pub one_units_scans_number : (κs : Lifetimes.Lfts 0) (a : World.ArgsD units_scans_number.signature κs) (r r' : World.ResD units_scans_number.signature κs)
+    (s s' : Clauses.AtExit (K.ended_of 0 units_scans_number_kinds.ps units_scans_number_kinds.r) κs) → units_scans_number_reads.Post κs a r s → units_scans_number_reads.Post κs a r' s' → r ≡ r'
+one_units_scans_number κs a r r' s s' h h' = one h h'
+
 pub one_units_scans_millis : (κs : Lifetimes.Lfts 0) (a : World.ArgsD units_scans_millis.signature κs) (r r' : World.ResD units_scans_millis.signature κs)
     (s s' : Clauses.AtExit (K.ended_of 0 units_scans_millis_kinds.ps units_scans_millis_kinds.r) κs) → units_scans_millis_reads.Post κs a r s → units_scans_millis_reads.Post κs a r' s' → r.0 ≡ r'.0
 one_units_scans_millis κs a r r' s s' h h' = one h h'
@@ -412,6 +467,14 @@ one_units_millis_add κs a r r' s s' h h' = one h h'
 pub one_units_millis_times : (κs : Lifetimes.Lfts 0) (a : World.ArgsD units_millis_times.signature κs) (r r' : World.ResD units_millis_times.signature κs)
     (s s' : Clauses.AtExit (K.ended_of 0 units_millis_times_kinds.ps units_millis_times_kinds.r) κs) → units_millis_times_reads.Post κs a r s → units_millis_times_reads.Post κs a r' s' → r.0 ≡ r'.0
 one_units_millis_times κs a r r' s s' h h' = one h h'
+
+pub one_units_millis_of : (κs : Lifetimes.Lfts 0) (a : World.ArgsD units_millis_of.signature κs) (r r' : World.ResD units_millis_of.signature κs)
+    (s s' : Clauses.AtExit (K.ended_of 0 units_millis_of_kinds.ps units_millis_of_kinds.r) κs) → units_millis_of_reads.Post κs a r s → units_millis_of_reads.Post κs a r' s' → r.0 ≡ r'.0
+one_units_millis_of κs a r r' s s' h h' = one h h'
+
+pub one_units_millis_number : (κs : Lifetimes.Lfts 0) (a : World.ArgsD units_millis_number.signature κs) (r r' : World.ResD units_millis_number.signature κs)
+    (s s' : Clauses.AtExit (K.ended_of 0 units_millis_number_kinds.ps units_millis_number_kinds.r) κs) → units_millis_number_reads.Post κs a r s → units_millis_number_reads.Post κs a r' s' → r ≡ r'
+one_units_millis_number κs a r r' s s' h h' = one h h'
 
 pub one_units_millis_tenths : (κs : Lifetimes.Lfts 0) (a : World.ArgsD units_millis_tenths.signature κs) (r r' : World.ResD units_millis_tenths.signature κs)
     (s s' : Clauses.AtExit (K.ended_of 0 units_millis_tenths_kinds.ps units_millis_tenths_kinds.r) κs) → units_millis_tenths_reads.Post κs a r s → units_millis_tenths_reads.Post κs a r' s' → r.0 ≡ r'.0

@@ -4,7 +4,7 @@ ghost use Rattle.totals.specs.Totals.{none_of, cost_of, plus_of, times_of};
 
 use crate::Totals;
 use perform::Performed;
-use units::{Millis, Scans, Steps};
+use units::{Amount, Millis, Scans, Steps};
 
 impl Totals {
     // Nothing so far.

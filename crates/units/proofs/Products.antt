@@ -1,15 +1,9 @@
--- When a product passes the limit, and the milliseconds of scans taken by whole rounds and a rest.
-use Prim.Native.Nat.{ℕ, ◌+◌, ◌-◌, ◌*◌, ◌/◌, ◌%◌, ◌≤◌, ◌<◌}
+-- The milliseconds of scans taken by whole rounds and a rest.
+use Prim.Native.Nat.{ℕ, ◌+◌, ◌-◌, ◌*◌, ◌/◌, ◌%◌, ◌<◌}
 use mathlib.Core.Path.{◌≡◌, ap, ◌∙◌}
 use native.Mathlib.Omega.{arith}
-use native.Mathlib.Nat.{le-div_iff_mul-le, div-lt_iff_lt-mul, div-add-mod, mul-add-div, mod-lt}
-use Rattle.units.specs.Units.{limit, capped, sum_of, rounded_up, millis_of}
-
-pub product_fits : (a b : ℕ) → (b ≡ 0 → ⊥) → a ≤ limit / b → a * b ≤ limit
-product_fits a b some h = let k : 0 < b = omega arith in (le-div_iff_mul-le {k = b} {x = a} {y = limit} k).0 h
-
-pub product_past : (a b : ℕ) → (b ≡ 0 → ⊥) → limit / b < a → limit < a * b
-product_past a b some h = let k : 0 < b = omega arith in (div-lt_iff_lt-mul {k = b} {x = limit} {y = a} k).0 h
+use native.Mathlib.Nat.{div-add-mod, mul-add-div}
+use Rattle.units.specs.Units.{capped, sum_of, rounded_up, millis_of}
 
 -- whole rounds of `pace + 5` scans take 200 each, and the rest is rounded up
 pub by_rounds : (n pace : ℕ) → rounded_up n pace ≡ 200 * (n / (pace + 5)) + (200 * (n % (pace + 5)) + (pace + 4)) / (pace + 5)
@@ -20,10 +14,6 @@ by_rounds n pace =
     let some : 0 < by = omega arith in
     let split : 200 * n + (pace + 4) ≡ by * (200 * q) + (200 * r + (pace + 4)) = omega (arith, div-add-mod n by) in
     ap (λ (m : ℕ). m / by) split ∙ mul-add-div some (200 * q) (200 * r + (pace + 4))
-
--- the rest is small
-pub rest_small : (n pace : ℕ) → pace < 256 → n % (pace + 5) < 261
-rest_small n pace h = let some : 0 < pace + 5 = omega arith in omega (arith, mod-lt n some)
 
 -- so the capped sum of the two is the capped whole
 pub rounds_summed : (n pace p r : ℕ) → p ≡ capped (n / (pace + 5) * 200)

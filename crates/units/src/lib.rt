@@ -2,13 +2,13 @@
 
 // Steps, shifts, scans and milliseconds (S14): one tuple struct a unit, with its own sum and its own conversion to the
 // next (P11). A sum or a product past 64 bits stays at the greatest number.
-//   capped   the sum and the product that stay at the greatest number
+//   amount   what the four share: a sum and some times over, each within one unit
 ghost use Rattle.std.specs.Prelude.{◌≡◌, ◌*◌};
-ghost use Rattle.units.specs.Units.{sum_of, times_of, scans_of, millis_of};
+ghost use Rattle.units.specs.Units.{scans_of, millis_of};
 
-mod capped;
+mod amount;
 
-use capped::{capped_product, capped_sum};
+pub use amount::Amount;
 
 #[derive(Clone, Copy, PartialEq)]
 pub struct Steps(pub u64);
@@ -22,62 +22,72 @@ pub struct Scans(pub u64);
 #[derive(Clone, Copy, PartialEq)]
 pub struct Millis(pub u64);
 
-impl Steps {
-    // These steps and those.
-    pub fn add(self, more: Steps) -> Steps
-        ensures { result.0 ≡ sum_of self.0 more.0 }
-    {
-        Steps(capped_sum(self.0, more.0))
+impl Amount for Steps {
+    ghost count = { λ steps. steps.0 };
+
+    fn of(number: u64) -> Steps {
+        Steps(number)
     }
 
-    // These steps, some times over.
-    pub fn times(self, n: u8) -> Steps
-        ensures { result.0 ≡ times_of self.0 n }
-    {
-        Steps(capped_product(self.0, n as u64))
+    fn number(self) -> u64 {
+        self.0
+    }
+}
+
+impl Amount for Shifts {
+    ghost count = { λ shifts. shifts.0 };
+
+    fn of(number: u64) -> Shifts {
+        Shifts(number)
+    }
+
+    fn number(self) -> u64 {
+        self.0
+    }
+}
+
+impl Amount for Scans {
+    ghost count = { λ scans. scans.0 };
+
+    fn of(number: u64) -> Scans {
+        Scans(number)
+    }
+
+    fn number(self) -> u64 {
+        self.0
+    }
+}
+
+impl Amount for Millis {
+    ghost count = { λ millis. millis.0 };
+
+    fn of(number: u64) -> Millis {
+        Millis(number)
+    }
+
+    fn number(self) -> u64 {
+        self.0
     }
 }
 
 impl Shifts {
-    // These shifts and those.
-    pub fn add(self, more: Shifts) -> Shifts
-        ensures { result.0 ≡ sum_of self.0 more.0 }
-    {
-        Shifts(capped_sum(self.0, more.0))
-    }
-
     // The scans of these shifts, at some scans for each.
     pub fn scans(self, each: u8) -> Scans
         ensures { result.0 ≡ scans_of self.0 each }
     {
-        Scans(capped_product(self.0, each as u64))
+        Scans(self.0.saturating_mul(each as u64))
     }
 }
 
 impl Scans {
-    // These scans and those.
-    pub fn add(self, more: Scans) -> Scans
-        ensures { result.0 ≡ sum_of self.0 more.0 }
-    {
-        Scans(capped_sum(self.0, more.0))
-    }
-
-    // These scans, some times over.
-    pub fn times(self, n: u8) -> Scans
-        ensures { result.0 ≡ times_of self.0 n }
-    {
-        Scans(capped_product(self.0, n as u64))
-    }
-
     // The milliseconds of these scans at a pace, rounded up.
     pub fn millis(self, pace: u8) -> Millis
         ensures { result.0 ≡ millis_of self.0 pace }
     {
-        let n = self.0;
         let by = pace as u64 + 5;
-        let whole = n / by;
-        let rest = n % by;
-        Millis(capped_sum(capped_product(whole, 200), (200 * rest + (by - 1)) / by))
+        let rest = self.0 % by;
+        let last = (200 * rest + (by - 1)) / by;
+        Millis((self.0 / by).saturating_mul(200).saturating_add(last))
     }
 }
 
@@ -87,19 +97,5 @@ impl Millis {
         ensures { result.0 ≡ 100 * n }
     {
         Millis(100 * n as u64)
-    }
-
-    // These milliseconds and those.
-    pub fn add(self, more: Millis) -> Millis
-        ensures { result.0 ≡ sum_of self.0 more.0 }
-    {
-        Millis(capped_sum(self.0, more.0))
-    }
-
-    // These milliseconds, some times over.
-    pub fn times(self, n: u8) -> Millis
-        ensures { result.0 ≡ times_of self.0 n }
-    {
-        Millis(capped_product(self.0, n as u64))
     }
 }

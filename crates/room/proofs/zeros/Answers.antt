@@ -1,14 +1,13 @@
+-- `zeros` takes the greatest byte, which is 0 only if all are.
+use mathlib.Core.Path.{◌≡◌, ap, ◌∙◌}
+use lib.Dec.{eqb}
 use borrow.Author.Rules.{rules}
-use Rattle.room.proofs.Blanks.{zero_more, zero_past}
+use Rattle.std.specs.Prelude.{max}
+use Rattle.std.specs.List.{fold}
+use Rattle.room.proofs.Blanks.{greatest_zero}
 use Rattle.room.proofs.zeros.Goals as goal
-
-pub loop-i-preserved : goal.loop-i-preserved
-loop-i-preserved c =
-    let l = c.loop-i in
-    let b = c.args.bytes.now in
-    (search rules, zero_more b l.i l.most c.greater-most.result (search rules) c.greater-most.ensures l.invariant.1)
 
 pub returns : goal.returns
 returns c =
-    let l = c.loop-i in
-    zero_past c.args.bytes.now l.i l.most (search rules) l.invariant.1
+    let most : c.fold.result ≡ fold (λ a x. max a x) 0 c.args.bytes.now = search rules in
+    ap (λ n. eqb n 0) most ∙ greatest_zero 0 c.args.bytes.now

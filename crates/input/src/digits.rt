@@ -6,25 +6,12 @@ ghost use Rattle.input.specs.Digits.{digit_of, pair_of};
 pub fn digit(x: u8) -> u8
     ensures { result ≡ digit_of x }
 {
-    if x < b'0' {
-        return 0;
+    match x {
+        b'0'..=b'9' => x - b'0',
+        b'A'..=b'F' => x - b'A' + 10,
+        b'a'..=b'f' => x - b'a' + 10,
+        _ => 0,
     }
-    if x <= b'9' {
-        return x - b'0';
-    }
-    if x < b'A' {
-        return 0;
-    }
-    if x <= b'F' {
-        return x - b'A' + 10;
-    }
-    if x < b'a' {
-        return 0;
-    }
-    if x <= b'f' {
-        return x - b'a' + 10;
-    }
-    0
 }
 
 // The byte that two digits write.

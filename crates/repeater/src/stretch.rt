@@ -8,16 +8,7 @@ pub fn shows(body: &[u8], place: usize, len: usize) -> bool
     ensures { result ≡ within_of body.now place len }
 {
     let count = body.len();
-    if place == 0 {
-        return false;
-    }
-    if count < place {
-        return false;
-    }
-    if count - place < len {
-        return false;
-    }
-    true
+    place != 0 && place <= count && len <= count - place
 }
 
 // The stretch of the body at this place and of this length, or the whole standing line: that very memory, by block and offset.

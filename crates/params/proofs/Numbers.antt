@@ -6,19 +6,21 @@ use mathlib.Core.List.{List, [], ◌∷◌}
 use native.Mathlib.Omega.{arith}
 use lib.ListN.{length, get_or, drop}
 use Rattle.basis.specs.Choice.{when, ◌and◌, within}
-use Rattle.params.specs.Bytes.{caret, param_of}
+use Rattle.params.specs.Bytes.{caret, param_of, read_to}
 use Rattle.params.specs.Number.{digits, value_of, number_of}
 use Rattle.params.specs.declared.Parameter.{Parameter}
-use Rattle.params.specs.declared.Parameter.TheVariants.{Right, Wrong}
+use Rattle.refusal.specs.declared.Fault.{Fault}
+use Rattle.refusal.specs.Refusal.{fault}
+use Rattle.std.proofs.Common.{Result, Ok, Err}
 use Rattle.basis.proofs.Choices.{and_true, and_parts, within_parts, within_true}
 use Rattle.params.proofs.Places.{param_next, param_end}
 
-else_taken : (t : Bool) (r w : Parameter) → (t ≡ true → ⊥) → w ≡ when t r w
+else_taken : (t : Bool) (r w : Result Parameter Fault) → (t ≡ true → ⊥) → w ≡ when t r w
 else_taken true r w h = absurd (h refl)
 else_taken false r w h = refl
 
 -- a number that breaks one of the rules is wrong, whichever it breaks
-pub number_wrong : (lo hi most place at : ℕ) (ds : List ℕ) → (digits ds ≡ true → 1 ≤ length ds → length ds ≤ most → lo ≤ value_of 0 ds → value_of 0 ds ≤ hi → ⊥) → Wrong 23 place ≡ number_of lo hi most place at ds
+pub number_wrong : (lo hi most place at : ℕ) (ds : List ℕ) → (digits ds ≡ true → 1 ≤ length ds → length ds ≤ most → lo ≤ value_of 0 ds → value_of 0 ds ≤ hi → ⊥) → Err (fault 23 place) ≡ number_of lo hi most place at ds
 number_wrong lo hi most place at ds h =
     else_taken _ _ _
     (λ (e : digits ds and (within 1 (length ds) most and within lo (value_of 0 ds) hi) ≡ true).
@@ -28,9 +30,9 @@ number_wrong lo hi most place at ds h =
     let v = within_parts lo (value_of 0 ds) hi r.1 in
     h c.0 n.0 n.1 v.0 v.1)
 
-pub number_right : (lo hi most place at : ℕ) (ds : List ℕ) → digits ds ≡ true → 1 ≤ length ds → length ds ≤ most → lo ≤ value_of 0 ds → value_of 0 ds ≤ hi → number_of lo hi most place at ds ≡ Right (at + length ds) (value_of 0 ds)
+pub number_right : (lo hi most place at : ℕ) (ds : List ℕ) → digits ds ≡ true → 1 ≤ length ds → length ds ≤ most → lo ≤ value_of 0 ds → value_of 0 ds ≤ hi → number_of lo hi most place at ds ≡ Ok (read_to (at + length ds) (value_of 0 ds))
 number_right lo hi most place at ds d one few low high =
-    ap (λ (t : Bool). when t (Right (at + length ds) (value_of 0 ds)) (Wrong 23 place))
+    ap (λ (t : Bool). when t (Ok (read_to (at + length ds) (value_of 0 ds))) (Err (fault 23 place)))
     (and_true _ _ d
     (and_true _ _ (within_true 1 (length ds) most one few) (within_true lo (value_of 0 ds) hi low high)))
 
@@ -59,7 +61,7 @@ module _ (b : List ℕ) (from at v x : ℕ) (p : Passed b from at v) (ex : x ≡
   pub end_count : x ≡ caret → from + length (param_of (drop from b)) ≡ at
   end_count h = let e = ap length (param_end b at (sym ex ∙ h)) in let k = p.count in omega arith
 
-  pub end_right : (lo hi most place : ℕ) → x ≡ caret → (at ≡ from → ⊥) → from ≤ at → at ≤ from + most → lo ≤ v → v ≤ hi → Right at v ≡ number_of lo hi most place from (param_of (drop from b))
+  pub end_right : (lo hi most place : ℕ) → x ≡ caret → (at ≡ from → ⊥) → from ≤ at → at ≤ from + most → lo ≤ v → v ≤ hi → Ok (read_to at v) ≡ number_of lo hi most place from (param_of (drop from b))
   end_right lo hi most place h some after few low high =
       let ds = param_of (drop from b) in
       let n = end_count h in
@@ -70,8 +72,8 @@ module _ (b : List ℕ) (from at v x : ℕ) (p : Passed b from at v) (ex : x ≡
       let high' : value_of 0 ds ≤ hi = omega arith in
       sym
       (number_right lo hi most place from ds (end_good h) one most' low' high'
-      ∙ ap (λ (k : ℕ). Right (from + length ds) k) w
-      ∙ ap (λ (k : ℕ). Right k v) n)
+      ∙ ap (λ (k : ℕ). Ok (read_to (from + length ds) k)) w
+      ∙ ap (λ (k : ℕ). Ok (read_to k v)) n)
 
   module _ (h : x ≡ caret → ⊥) where
     step : param_of (drop at b) ≡ x ∷ param_of (drop (at + 1) b)

@@ -13,12 +13,14 @@ use lib.ListN.{length, get_or, drop, drop_of_length-le}
 use Rattle.basis.specs.Choice.{when, ◌and◌, ◌or◌}
 use Rattle.basis.proofs.Choices.{when_true, when_false}
 use Rattle.basis.proofs.Lists.{drop_next}
-use Rattle.params.specs.Bytes.{caret, param_of, first_of}
+use Rattle.params.specs.Bytes.{caret, param_of, first_of, read_to}
 use Rattle.params.specs.Kinds.{ByteKind, Plain, Caret, Tilde, Column, kind_of, kind_digit, kind_is}
 use Rattle.params.specs.Text.{is_letter, may_run, wrong_of, text_of}
 use Rattle.params.specs.Pieces.{run_length, piece_of}
 use Rattle.params.specs.declared.Parameter.{Parameter}
-use Rattle.params.specs.declared.Parameter.TheVariants.{Right, Wrong}
+use Rattle.refusal.specs.declared.Fault.{Fault}
+use Rattle.refusal.specs.Refusal.{fault}
+use Rattle.std.proofs.Common.{Result, Ok, Err}
 use Rattle.params.proofs.Places.{within_body, param_cons, param_first}
 use Rattle.params.proofs.Texts.{text_next}
 
@@ -88,21 +90,21 @@ last_alone : (p x i : ℕ) (ds : List ℕ) → kind_is Tilde p ≡ false → tex
 last_alone p x i [] e = refl
 last_alone p x i (y ∷ ys) e =
     let m : may_run p x ≡ may_run 0 x = ap (λ (t : Bool). kind_is Column x or (t and eqb x 0x47)) e in
-    ap (λ (w : ℕ). when (eqb w 0) (text_of x y (i + 1) ys) (Wrong w i)) (same_fault p x y (first_of ys) 0 x (ap (λ (t : Bool). kind_is Column y and t) m))
+    ap (λ (w : ℕ). when (eqb w 0) (text_of x y (i + 1) ys) (Err (fault w i))) (same_fault p x y (first_of ys) 0 x (ap (λ (t : Bool). kind_is Column y and t) m))
 
 front_forgotten : (q p i : ℕ) (ds : List ℕ) → kind_is Column (first_of ds) and may_run q p ≡ false → kind_is Tilde p ≡ false → text_of q p i ds ≡ text_of 0 0 i ds
 front_forgotten q p i [] e t = refl
 front_forgotten q p i (y ∷ ys) e t =
     let f : wrong_of q p y (first_of ys) ≡ wrong_of 0 0 y (first_of ys) = same_fault q p y (first_of ys) 0 0 (e ∙ sym (and_false (kind_is Column y))) in
-    ap (λ (w : ℕ). when (eqb w 0) (text_of p y (i + 1) ys) (Wrong w i)) f
-    ∙ ap (λ (r : Parameter). when (eqb (wrong_of 0 0 y (first_of ys)) 0) r (Wrong (wrong_of 0 0 y (first_of ys)) i)) (last_alone p y (i + 1) ys t)
+    ap (λ (w : ℕ). when (eqb w 0) (text_of p y (i + 1) ys) (Err (fault w i))) f
+    ∙ ap (λ (r : Result Parameter Fault). when (eqb (wrong_of 0 0 y (first_of ys)) 0) r (Err (fault (wrong_of 0 0 y (first_of ys)) i))) (last_alone p y (i + 1) ys t)
 
 run_closed : (q p i : ℕ) (ds : List ℕ) → may_run q p ≡ false → kind_is Tilde p ≡ false → text_of q p i ds ≡ text_of 0 0 i ds
 run_closed q p i ds m t = front_forgotten q p i ds (ap (λ (u : Bool). kind_is Column (first_of ds) and u) m ∙ and_false (kind_is Column (first_of ds))) t
 
 -- columns that may run on are passed, all of them
 run_text : (q p i : ℕ) (ds : List ℕ) → may_run q p ≡ true → kind_is Tilde p ≡ false → text_of q p i (param_of ds) ≡ text_of 0 0 (i + run_length ds) (param_of (drop (run_length ds) ds))
-run_text q p i [] m t = let e : i ≡ i + 0 = omega arith in ap (λ (n : ℕ). Right n 0) e
+run_text q p i [] m t = let e : i ≡ i + 0 = omega arith in ap (λ (n : ℕ). Ok (read_to n 0)) e
 run_text q p i (y ∷ ys) m t = go (kind_is Column y) refl (λ n u. run_text p y (i + 1) ys n u)
   where
     go : (c : Bool) → kind_is Column y ≡ c
@@ -113,7 +115,7 @@ run_text q p i (y ∷ ys) m t = go (kind_is Column y) refl (λ n u. run_text p y
         let right : wrong_of q p y first ≡ 0 = wrong_column q p y first e ∙ ap (λ (u : Bool). when u 0 24) m in
         let place : i + 1 + run_length ys ≡ i + suc (run_length ys) = omega arith in
         ap (text_of q p i) (param_cons y ys (not_caret Column y e (λ z. omega arith)))
-        ∙ when_true (eqb (wrong_of q p y first) 0) (text_of p y (i + 1) (param_of ys)) (Wrong (wrong_of q p y first) i) (eq-eqb (wrong_of q p y first) 0 right)
+        ∙ when_true (eqb (wrong_of q p y first) 0) (text_of p y (i + 1) (param_of ys)) (Err (fault (wrong_of q p y first) i)) (eq-eqb (wrong_of q p y first) 0 right)
         ∙ rest (ap (λ (u : Bool). u or (kind_is Tilde p and eqb y 0x47)) e) (kind_known Column Tilde y e)
         ∙ ap (λ (n : ℕ). text_of 0 0 n (param_of (drop (run_length ys) ys))) place
     go false e rest =
@@ -149,7 +151,7 @@ piece_goes b i = go (kind_is Tilde (get_or b i caret))
 
 -- one piece more of a text, which begins with a byte that is no caret and nothing wrong
 module _ (b : List ℕ) (i : ℕ) (h : get_or b i caret ≡ caret → ⊥) (w : wrong_of 0 0 (get_or b i caret) (get_or b (i + 1) caret) ≡ 0) where
-  abbrev from : ℕ → Parameter
+  abbrev from : ℕ → Result Parameter Fault
   from n = text_of 0 0 n (param_of (drop n b))
 
   one_more : from i ≡ text_of 0 (get_or b i caret) (i + 1) (param_of (drop (i + 1) b))

@@ -15,7 +15,9 @@ use Rattle.params.specs.Kinds.{ByteKind, Control, Plain, Caret, Tilde, Column, k
 use Rattle.params.specs.Text.{is_letter, may_run, wrong_of, text_of}
 use Rattle.params.specs.Before.{WasKind, was_plain, was_tilde, was_graphic, was_forbidden, was_kind_of, was_may_run, was_wrong_by, was_wrong_of, was_text_of}
 use Rattle.params.specs.declared.Parameter.{Parameter}
-use Rattle.params.specs.declared.Parameter.TheVariants.{Wrong}
+use Rattle.refusal.specs.declared.Fault.{Fault}
+use Rattle.refusal.specs.Refusal.{fault}
+use Rattle.std.proofs.Common.{Result, Err}
 use Rattle.params.proofs.Entries.{every, every_at}
 
 -- the kind that a byte of each kind was of
@@ -96,8 +98,8 @@ kept_from : (q p at : ℕ) (ds : List ℕ) → q < 256 → p < 256 → Bytes ds 
 kept_from q p at [] hq hp hs = refl
 kept_from q p at (x ∷ xs) hq hp hs =
     let w = wrong_of q p x (first_of xs) in
-    ap (λ (v : ℕ). when (eqb v 0) (was_text_of p x (at + 1) xs) (Wrong v at)) (kept_fault q p x (first_of xs) hq hp hs.0)
-    ∙ ap (λ (r : Parameter). when (eqb w 0) r (Wrong w at)) (kept_from p x (at + 1) xs hp hs.0 hs.1)
+    ap (λ (v : ℕ). when (eqb v 0) (was_text_of p x (at + 1) xs) (Err (fault v at))) (kept_fault q p x (first_of xs) hq hp hs.0)
+    ∙ ap (λ (r : Result Parameter Fault). when (eqb w 0) r (Err (fault w at))) (kept_from p x (at + 1) xs hp hs.0 hs.1)
 
 -- the answer to every text, and its place, are those of 1.0.1
 pub same_text : (at : ℕ) (ds : List ℕ) → Bytes ds → was_text_of 0 0 at ds ≡ text_of 0 0 at ds

@@ -1,11 +1,12 @@
 -- What a text was until version 1.0.1, kept as it was: C-19 promises that every text keeps its answer, and proofs/Same shows it.
 -- Nothing else uses this.
-use Rattle.std.specs.Prelude.{ℕ, ◌+◌, List, [], ◌∷◌, Bool, eqb, ltb, leb}
+use Rattle.std.specs.Prelude.{ℕ, ◌+◌, List, [], ◌∷◌, Bool, eqb, ltb, leb, Result, Ok, Err}
 use Rattle.basis.specs.Choice.{when, ◌and◌, ◌or◌}
-use Rattle.params.specs.Bytes.{caret, tilde, first_of}
+use Rattle.params.specs.Bytes.{caret, tilde, first_of, read_to}
 use Rattle.params.specs.Text.{is_letter}
 use Rattle.params.specs.declared.Parameter.{Parameter}
-use Rattle.params.specs.declared.Parameter.TheVariants.{Right, Wrong}
+use Rattle.refusal.specs.Refusal.{fault}
+use Rattle.refusal.specs.declared.Fault.{Fault}
 
 -- the four kinds that there were
 pub data WasKind : Type 0 where
@@ -39,9 +40,9 @@ abbrev pub was_wrong_of : ℕ → ℕ → ℕ → ℕ → ℕ
 was_wrong_of before last x next = was_wrong_by (was_kind_of x) (was_may_run before last) (is_letter next)
 
 -- a text whose bytes stand from `at` on: the place after it, or the first byte at fault
-abbrev pub was_text_of : (before last at : ℕ) → List ℕ → Parameter
-was_text_of before last at [] = Right at 0
+abbrev pub was_text_of : (before last at : ℕ) → List ℕ → Result Parameter Fault
+was_text_of before last at [] = Ok (read_to at 0)
 was_text_of before last at (x ∷ xs) =
     when (eqb (was_wrong_of before last x (first_of xs)) 0)
     (was_text_of last x (at + 1) xs)
-    (Wrong (was_wrong_of before last x (first_of xs)) at)
+    (Err (fault (was_wrong_of before last x (first_of xs)) at))

@@ -1,10 +1,11 @@
 -- What a text may hold (L4 to L6), and how it is refused: N24 at the byte, N25 at the tilde.
-use Rattle.std.specs.Prelude.{ℕ, ◌+◌, List, [], ◌∷◌, Bool, eqb, get_or}
+use Rattle.std.specs.Prelude.{ℕ, ◌+◌, List, [], ◌∷◌, Bool, eqb, get_or, Result, Ok, Err}
 use Rattle.basis.specs.Choice.{when, ◌and◌, ◌or◌}
-use Rattle.params.specs.Bytes.{caret, first_of}
+use Rattle.params.specs.Bytes.{caret, first_of, read_to}
 use Rattle.params.specs.Kinds.{Plain, Tilde, Column, kind_is}
 use Rattle.params.specs.declared.Parameter.{Parameter}
-use Rattle.params.specs.declared.Parameter.TheVariants.{Right, Wrong}
+use Rattle.refusal.specs.Refusal.{fault}
+use Rattle.refusal.specs.declared.Fault.{Fault}
 
 -- one of `B b C c D d G`
 abbrev pub is_letter : ℕ → Bool
@@ -22,12 +23,12 @@ wrong_of before last x next =
     (when (kind_is Column x and may_run before last) 0 24))
 
 -- a text whose bytes stand from `at` on: the place after it, or the first byte at fault
-abbrev pub text_of : (before last at : ℕ) → List ℕ → Parameter
-text_of before last at [] = Right at 0
+abbrev pub text_of : (before last at : ℕ) → List ℕ → Result Parameter Fault
+text_of before last at [] = Ok (read_to at 0)
 text_of before last at (x ∷ xs) =
     when (eqb (wrong_of before last x (first_of xs)) 0)
     (text_of last x (at + 1) xs)
-    (Wrong (wrong_of before last x (first_of xs)) at)
+    (Err (fault (wrong_of before last x (first_of xs)) at))
 
 -- what is wrong with the byte at place i of a text, nothing standing in front of the first
 abbrev pub wrong_at : List ℕ → ℕ → ℕ

@@ -23,23 +23,5 @@ pub fn byte_at(body: &[u8], at: usize) -> u8
 pub(crate) fn is_letter(x: u8) -> bool
     ensures { result ≡ is_letter x }
 {
-    if x == b'B' {
-        return true;
-    }
-    if x == b'b' {
-        return true;
-    }
-    if x == b'C' {
-        return true;
-    }
-    if x == b'c' {
-        return true;
-    }
-    if x == b'D' {
-        return true;
-    }
-    if x == b'd' {
-        return true;
-    }
-    x == b'G'
+    matches!(x, b'B' | b'b' | b'C' | b'c' | b'D' | b'd' | b'G')
 }

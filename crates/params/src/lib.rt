@@ -16,9 +16,9 @@ pub use bytes::{CARET, TILDE, byte_at};
 pub use number::read_number;
 pub use text::read_text;
 
-// A parameter read: the place behind it and its number (0 of a text or nothing), or the refusal and its place.
+// A parameter read: the place behind it, and its number, which is 0 of a text or of nothing.
 #[derive(Clone, Copy)]
-pub enum Parameter {
-    Right(usize, usize),
-    Wrong(u8, usize),
+pub struct Parameter {
+    pub next: usize,
+    pub number: usize,
 }

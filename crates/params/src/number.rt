@@ -6,11 +6,23 @@ ghost use Rattle.params.specs.Number.{number_of};
 
 use crate::Parameter;
 use crate::bytes::{CARET, byte_at};
+use refusal::{Fault, Refusal};
 
 // The number from a place on, of 1 to `most` digits and a value from `lo` to `hi`; 23 at the command's place where it is not.
-pub fn read_number(body: &[u8], place: usize, from: usize, lo: u8, hi: u8, most: usize) -> Parameter
+pub fn read_number(
+    body: &[u8],
+    place: usize,
+    from: usize,
+    lo: u8,
+    hi: u8,
+    most: usize,
+) -> Result<Parameter, Fault>
     ensures { result ≡ number_of lo hi most place from (param_of (drop from body.now)) }
 {
+    let wrong = Fault {
+        refusal: Refusal::WrongNumber,
+        place,
+    };
     let least = lo as usize;
     let greatest = hi as usize;
     let mut at = from;
@@ -19,21 +31,24 @@ pub fn read_number(body: &[u8], place: usize, from: usize, lo: u8, hi: u8, most:
         let x = byte_at(body, at);
         if x == CARET {
             if at == from {
-                return Parameter::Wrong(23, place);
+                return Err(wrong);
             }
             if value < least {
-                return Parameter::Wrong(23, place);
+                return Err(wrong);
             }
-            return Parameter::Right(at, value);
+            return Ok(Parameter {
+                next: at,
+                number: value,
+            });
         }
         if x < b'0' {
-            return Parameter::Wrong(23, place);
+            return Err(wrong);
         }
         if b'9' < x {
-            return Parameter::Wrong(23, place);
+            return Err(wrong);
         }
         if most <= at - from {
-            return Parameter::Wrong(23, place);
+            return Err(wrong);
         }
         let digit = (x - b'0') as u32;
         let once = value as u32;
@@ -42,7 +57,7 @@ pub fn read_number(body: &[u8], place: usize, from: usize, lo: u8, hi: u8, most:
         let eightfold = fourfold + fourfold;
         value = (eightfold + twice + digit) as usize;
         if greatest < value {
-            return Parameter::Wrong(23, place);
+            return Err(wrong);
         }
         at += 1;
     }

@@ -3,12 +3,13 @@
 ghost use Rattle.std.specs.Prelude.{◌≡◌, ◌+◌, ◌<◌, length, get_or, drop};
 ghost use Rattle.params.specs.Bytes.{caret, param_of};
 ghost use Rattle.params.specs.Kinds.{kind_of, kind_digit};
-ghost use Rattle.params.specs.Text.{wrong_of, text_of};
-ghost use Rattle.params.specs.Pieces.{run_length, piece_of};
+ghost use Rattle.params.specs.Text.{text_of};
+ghost use Rattle.params.specs.Pieces.{wrong_here, run_length, piece_of};
 
 use crate::Parameter;
 use crate::bytes::{CARET, byte_at, is_letter};
 use crate::kinds::{KIND_COLUMN, KIND_PLAIN, KIND_TILDE, kind_of};
+use refusal::{Fault, Refusal};
 
 // The place after the columns that stand from a place on. The end is compared and not asked of the table, which costs less.
 fn run_end(body: &[u8], from: usize) -> usize
@@ -27,22 +28,18 @@ fn run_end(body: &[u8], from: usize) -> usize
     }
 }
 
-// What is wrong with the byte at a place, of this kind, where a piece begins: 24, 25, or 0 where nothing is. The byte after it counts
-// for a tilde alone, and is read only there.
-fn wrong(body: &[u8], at: usize, kind: u8) -> u8
+// What is wrong with the byte at a place, of this kind, where a piece begins. The byte after it counts for a tilde alone, and is read
+// only there.
+fn wrong(body: &[u8], at: usize, kind: u8) -> Option<Refusal>
     requires { (at < length body.now) × (kind ≡ kind_digit (kind_of (get_or body.now at caret))) }
-    ensures { result ≡ wrong_of 0 0 (get_or body.now at caret) (get_or body.now (at + 1) caret) }
+    ensures { result ≡ wrong_here body.now at }
 {
-    if kind == KIND_PLAIN {
-        return 0;
+    match kind {
+        KIND_PLAIN => None,
+        KIND_TILDE if is_letter(byte_at(body, at + 1)) => None,
+        KIND_TILDE => Some(Refusal::LoneTilde),
+        _ => Some(Refusal::WrongByte),
     }
-    if kind != KIND_TILDE {
-        return 24;
-    }
-    if is_letter(byte_at(body, at + 1)) {
-        return 0;
-    }
-    25
 }
 
 // The place after the piece at a place, whose first byte is of this kind.
@@ -60,19 +57,21 @@ fn piece_end(body: &[u8], at: usize, kind: u8) -> usize
 }
 
 // The text from a place on: the place after it, or its first byte at fault.
-pub fn read_text(body: &[u8], from: usize) -> Parameter
+pub fn read_text(body: &[u8], from: usize) -> Result<Parameter, Fault>
     ensures { result ≡ text_of 0 0 from (param_of (drop from body.now)) }
 {
     let mut at = from;
     loop {
         let x = byte_at(body, at);
         if x == CARET {
-            return Parameter::Right(at, 0);
+            return Ok(Parameter {
+                next: at,
+                number: 0,
+            });
         }
         let kind = kind_of(x);
-        let fault = wrong(body, at, kind);
-        if fault != 0 {
-            return Parameter::Wrong(fault, at);
+        if let Some(refusal) = wrong(body, at, kind) {
+            return Err(Fault { refusal, place: at });
         }
         at = piece_end(body, at, kind);
     }

@@ -2,7 +2,8 @@
 use Rattle.std.proofs.Common.{◌≡◌, ℕ, zero, suc, ◌<◌, Bool, true, false, List, [], ◌∷◌, sym, refl, ap, ◌∙◌, arith}
 use Rattle.basis.specs.Choice.{when}
 use Rattle.basis.specs.Rows.{Row, ◌if◌, first_of}
-use Rattle.refusal.specs.Refusal.{number_of, refusal_of, Named, AllNamed}
+use Rattle.refusal.specs.Refusal.{number_of, refusal_of, fault, Named, AllNamed}
+use Rattle.refusal.specs.declared.Fault.{Fault}
 use Rattle.refusal.specs.declared.Refusal.{Refusal}
 use Rattle.refusal.specs.declared.Refusal.TheVariants.{TooFewBytes, TooManyBytes, WrongCount, WrongChecksum, OtherMid, WrongMark, WrongEnd, UnknownId, WrongSize, WrongPlace, ShortPart, Busy, OtherPacket, Unsound, WrongStart, ForbiddenMid, NoCaret, NoCommand, WrongNumber, WrongByte, LoneTilde, WrongLoop, BehindEnd, LongBody, WrongBody, WrongId, NoPosition, NoRoom, NoReply}
 
@@ -86,3 +87,7 @@ first_named (n if b ∷ rows) all h = go b (first_named rows all.1) h
     go : (t : Bool) → (0 < first_of rows → Named (first_of rows)) → 0 < when t n (first_of rows) → Named (when t n (first_of rows))
     go true rest k = all.0
     go false rest k = rest k
+
+-- a fault is made of its number and its place
+pub fault_back : (f : Fault) → fault (number_of f.refusal) f.place ≡ f
+fault_back f = ap (λ (e : Refusal). record { refusal = e; place = f.place }) (name_back f.refusal)

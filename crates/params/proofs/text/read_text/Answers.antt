@@ -1,29 +1,35 @@
-use Prim.Native.Nat.{ℕ}
+use Prim.Native.Nat.{ℕ, ◌+◌}
 use mathlib.Core.Path.{refl, sym, ap, ◌∙◌}
 use native.Mathlib.Omega.{arith}
 use lib.ListN.{get_or, drop}
+use Rattle.refusal.specs.declared.Refusal.{Refusal}
 use Rattle.params.specs.Bytes.{caret, param_of}
-use Rattle.params.specs.Text.{text_of}
+use Rattle.params.specs.Text.{wrong_of, text_of}
 use Rattle.params.proofs.Places.{within_body}
-use Rattle.params.proofs.Texts.{text_end, text_bad}
+use Rattle.params.proofs.Texts.{text_end, text_bad, named_some, named_none}
 use Rattle.params.proofs.Pieces.{kind_there, piece_goes, text_piece}
 use Rattle.params.proofs.text.read_text.Goals as goal
+use Rattle.std.proofs.Common.{Err}
 
 pub returns-then-x-eq-CARET : goal.returns-then-x-eq-CARET
 returns-then-x-eq-CARET c =
     let l = c.loop-from in
     text_end c.args.body.now 0 0 l.at c.byte_at-x.result c.byte_at-x.ensures c.if-x-eq-CARET.true ∙ l.invariant
 
-pub wrong-fault-requires : goal.wrong-fault-requires
-wrong-fault-requires c =
+pub wrong-requires : goal.wrong-requires
+wrong-requires c =
     let b = c.args.body.now in
     (within_body b c.loop-from.at (λ k. c.if-x-eq-CARET.false (c.byte_at-x.ensures ∙ k)), kind_there c.byte_at-x.result (get_or b c.loop-from.at caret) c.kind_of-kind.result c.kind_of-kind.ensures c.byte_at-x.ensures)
 
-pub returns-then-fault-ne0 : goal.returns-then-fault-ne0
-returns-then-fault-ne0 c =
+pub returns-in-Some : goal.returns-in-Some
+returns-in-Some c =
     let l = c.loop-from in
     let b = c.args.body.now in
-    text_bad b 0 0 l.at (get_or b l.at caret) c.wrong-fault.result refl (λ k. c.if-x-eq-CARET.false (c.byte_at-x.ensures ∙ k)) c.wrong-fault.ensures c.if-fault-ne0.true ∙ l.invariant
+    let x = get_or b l.at caret in
+    let n = named_some (wrong_of 0 0 x (get_or b (l.at + 1) caret)) c.in-Some.refusal (sym c.wrong.ensures ∙ c.in-Some.is) in
+    ap (λ (e : Refusal). Err (record { refusal = e; place = l.at })) (sym n.1)
+    ∙ text_bad b 0 0 l.at x _ refl (λ k. c.if-x-eq-CARET.false (c.byte_at-x.ensures ∙ k)) refl n.0
+    ∙ l.invariant
 
 pub piece_end-at-requires : goal.piece_end-at-requires
 piece_end-at-requires c =
@@ -44,5 +50,5 @@ loop-from-preserved c =
     let l = c.loop-from in
     let b = c.args.body.now in
     ap (λ (n : ℕ). text_of 0 0 n (param_of (drop n b))) c.piece_end-at.ensures
-    ∙ sym (text_piece b l.at (λ k. c.if-x-eq-CARET.false (c.byte_at-x.ensures ∙ k)) (sym c.wrong-fault.ensures ∙ c.if-fault-ne0.false))
+    ∙ sym (text_piece b l.at (λ k. c.if-x-eq-CARET.false (c.byte_at-x.ensures ∙ k)) (named_none _ (sym c.wrong.ensures ∙ c.in_default.is)))
     ∙ l.invariant

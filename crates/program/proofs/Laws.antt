@@ -13,20 +13,19 @@ use lib.Dec.{eqb}
 use lib.ListN.{length, get_or, drop, length-drop}
 use lib.Seq.{get_or-drop, drop-drop}
 use Rattle.basis.specs.Choice.{when, ◌and◌}
-use Rattle.params.specs.Bytes.{caret, param_of}
-use Rattle.program.specs.Table.{Line, line, table, begins, row_at}
-use Rattle.program.specs.Command.{parameter_of, command_of, row_of, read_of}
+use Rattle.params.specs.Bytes.{caret, param_of, read_to}
+use Rattle.program.specs.Table.{Line, line, table, begins, row_at, known}
+use Rattle.program.specs.Command.{parameter_of, command_of, made_of, row_of, read_of}
 use Rattle.program.specs.declared.Kind.{Kind}
 use Rattle.program.specs.declared.Form.{Form}
 use Rattle.program.specs.declared.Form.TheVariants.{Text, Bare, Number}
 use Rattle.program.specs.declared.Row.{Row}
-use Rattle.program.specs.declared.Row.TheVariants.{Known, Unknown}
 use Rattle.params.specs.declared.Parameter.{Parameter}
-use Rattle.params.specs.declared.Parameter.TheVariants.{Right, Wrong}
 use Rattle.program.specs.declared.Command.{Command}
-use Rattle.program.specs.declared.Reading.{Reading}
-use Rattle.program.specs.declared.Reading.TheVariants.{Good, Refused}
+use Rattle.refusal.specs.declared.Fault.{Fault}
+use Rattle.std.proofs.Common.{Result, Ok, Err, Option, Some, None}
 use Rattle.basis.proofs.Choices.{and_parts}
+use Rattle.refusal.proofs.Names.{some_one}
 use Rattle.program.proofs.Rows.{row_plain, row_no_caret}
 use Rattle.program.proofs.Parameters.{Ends, ends}
 
@@ -40,67 +39,47 @@ TextAt (Number lo hi most) at c = (c.text ≡ 0) × (c.len ≡ 0)
 pub record Made (b : List ℕ) (p : ℕ) (c : Command) : Type 0 where
   pub form : Form
   pub letters : ℕ
-  pub row : row_at table (drop p b) ≡ Known c.kind form letters
-  pub right : parameter_of form p (p + letters) (param_of (drop (p + letters) b)) ≡ Right c.next c.number
+  pub row : row_at table (drop p b) ≡ Some (known c.kind form letters)
+  pub right : parameter_of form p (p + letters) (param_of (drop (p + letters) b)) ≡ Ok (read_to c.next c.number)
   pub next : c.next ≡ p + letters + length (param_of (drop (p + letters) b))
   pub text : TextAt form (p + letters) c
 
-kind_in : Kind → Reading → Kind
-kind_in k (Good c) = c.kind
-kind_in k (Refused n q) = k
+command_made : (k : Kind) (f : Form) (at : ℕ) (r : Result Parameter Fault) (c : Command) → made_of k f at r ≡ Ok c → (k ≡ c.kind) × (r ≡ Ok (read_to c.next c.number)) × TextAt f at c
+command_made k f at (Ok r) c e = let h : command_of k f at r ≡ c = cc in by f h
+  where
+    by : (f : Form) → command_of k f at r ≡ c → (k ≡ c.kind) × (◌≡◌ {A = Result Parameter Fault} (Ok r) (Ok (read_to c.next c.number))) × TextAt f at c
+    by Text h =
+        (ap (λ (d : Command). d.kind) h, ap (λ (d : Command). Ok (read_to d.next d.number)) h, (sym (ap (λ (d : Command). d.text) h), sym (ap (λ (d : Command). d.len) h) ∙ ap (λ (d : Command). d.next - at) h))
+    by Bare h =
+        (ap (λ (d : Command). d.kind) h, ap (λ (d : Command). Ok (read_to d.next d.number)) h, (sym (ap (λ (d : Command). d.text) h), sym (ap (λ (d : Command). d.len) h)))
+    by (Number lo hi most) h =
+        (ap (λ (d : Command). d.kind) h, ap (λ (d : Command). Ok (read_to d.next d.number)) h, (sym (ap (λ (d : Command). d.text) h), sym (ap (λ (d : Command). d.len) h)))
+command_made k f at (Err x) c e = let z : ◌≡◌ {A = ℕ} 0 1 = cc in absurd (omega arith)
 
-right_in : Parameter → Reading → Parameter
-right_in r (Good c) = Right c.next c.number
-right_in r (Refused n q) = r
-
-command_made : (k : Kind) (f : Form) (at : ℕ) (r : Parameter) (c : Command) → command_of k f at r ≡ Good c → (k ≡ c.kind) × (r ≡ Right c.next c.number)
-unfolding kind_in right_in
-command_made k Text at (Right next n) c e = (ap (kind_in k) e, ap (right_in (Right next n)) e)
-command_made k Bare at (Right next n) c e = (ap (kind_in k) e, ap (right_in (Right next n)) e)
-command_made k (Number lo hi most) at (Right next n) c e = (ap (kind_in k) e, ap (right_in (Right next n)) e)
-command_made k f at (Wrong n q) c e = let z : ◌≡◌ {A = ℕ} 0 1 = cc in absurd (omega arith)
-
-text_in : Reading → ℕ
-text_in (Good c) = c.text
-text_in (Refused n q) = 0
-
-len_in : Reading → ℕ
-len_in (Good c) = c.len
-len_in (Refused n q) = 0
-
-next_in : Reading → ℕ
-next_in (Good c) = c.next
-next_in (Refused n q) = 0
-
-command_text : (k : Kind) (f : Form) (at : ℕ) (r : Parameter) (c : Command) → command_of k f at r ≡ Good c → TextAt f at c
-unfolding text_in len_in next_in
-command_text k Text at (Right next n) c e =
-    (sym (ap text_in e), sym (ap len_in e) ∙ ap (λ (x : ℕ). x - at) (ap next_in e))
-command_text k Bare at (Right next n) c e = (sym (ap text_in e), sym (ap len_in e))
-command_text k (Number lo hi most) at (Right next n) c e = (sym (ap text_in e), sym (ap len_in e))
-command_text k f at (Wrong n q) c e = let z : ◌≡◌ {A = ℕ} 0 1 = cc in absurd (omega arith)
-
-made_by : (b : List ℕ) (p : ℕ) (c : Command) (r : Row) → row_at table (drop p b) ≡ r → row_of b p r ≡ Good c → Made b p c
-made_by b p c Unknown e h = let z : ◌≡◌ {A = ℕ} 0 1 = cc in absurd (omega arith)
-made_by b p c (Known k f n) e h =
+made_by : (b : List ℕ) (p : ℕ) (c : Command) (r : Option Row) → row_at table (drop p b) ≡ r → row_of b p r ≡ Ok c → Made b p c
+made_by b p c None e h = let z : ◌≡◌ {A = ℕ} 0 1 = cc in absurd (omega arith)
+made_by b p c (Some row) e h =
+    let k = row.kind in
+    let f = row.form in
+    let n = row.letters in
     let ds = param_of (drop (p + n) b) in
     let m = command_made k f (p + n) (parameter_of f p (p + n) ds) c h in
     record {
       form = f;
       letters = n;
-      row = e ∙ ap (λ (j : Kind). Known j f n) m.0;
+      row = e ∙ ap (λ (j : Kind). Some (known j f n)) m.0;
       right = m.1;
       next = subst (Ends (p + n + length ds)) m.1 (ends f p (p + n) ds);
-      text = command_text k f (p + n) (parameter_of f p (p + n) ds) c h;
+      text = m.2;
     }
 
 -- a good command is made of a row and its parameter
-pub made : (b : List ℕ) (p : ℕ) (c : Command) → read_of b p ≡ Good c → Made b p c
+pub made : (b : List ℕ) (p : ℕ) (c : Command) → read_of b p ≡ Ok c → Made b p c
 unfolding read_of
 made b p c e = made_by b p c (row_at table (drop p b)) refl e
 
 -- each command is at least 2 bytes
-pub at_least_two : (b : List ℕ) (p : ℕ) (c : Command) → read_of b p ≡ Good c → p + 2 ≤ c.next
+pub at_least_two : (b : List ℕ) (p : ℕ) (c : Command) → read_of b p ≡ Ok c → p + 2 ≤ c.next
 at_least_two b p c e =
     let m = made b p c e in
     let l = (row_plain (drop p b) c.kind m.form m.letters m.row).least in
@@ -120,16 +99,16 @@ begins_within [] s e = omega arith
 begins_within (l ∷ ls) [] e = let z : ◌≡◌ {A = ℕ} 0 1 = cc in absurd (omega arith)
 begins_within (l ∷ ls) (x ∷ s) e = let h = begins_within ls s (and_parts (eqb x l) _ e).1 in omega arith
 
-row_within : (rows : List Line) (s : List ℕ) (k : Kind) (f : Form) (n : ℕ) → row_at rows s ≡ Known k f n → n ≤ length s
+row_within : (rows : List Line) (s : List ℕ) (k : Kind) (f : Form) (n : ℕ) → row_at rows s ≡ Some (known k f n) → n ≤ length s
 row_within [] s k f n e = let z : ◌≡◌ {A = ℕ} 0 1 = cc in absurd (omega arith)
 row_within (line ls j g ∷ rows) s k f n e = go (begins ls s) refl e (row_within rows s k f n)
   where
-    go : (b : Bool) → begins ls s ≡ b → when b (Known j g (length ls)) (row_at rows s) ≡ Known k f n → (row_at rows s ≡ Known k f n → n ≤ length s) → n ≤ length s
-    go true t e' h = let y : length ls ≡ n = cc in let l = begins_within ls s t in omega arith
+    go : (b : Bool) → begins ls s ≡ b → when b (Some (known j g (length ls))) (row_at rows s) ≡ Some (known k f n) → (row_at rows s ≡ Some (known k f n) → n ≤ length s) → n ≤ length s
+    go true t e' h = let y : length ls ≡ n = ap (λ (r : Row). r.letters) (some_one e') in let l = begins_within ls s t in omega arith
     go false t e' h = h e'
 
 -- a good command lies within the body
-pub ends_within : (b : List ℕ) (p : ℕ) (c : Command) → read_of b p ≡ Good c → c.next ≤ length b
+pub ends_within : (b : List ℕ) (p : ℕ) (c : Command) → read_of b p ≡ Ok c → c.next ≤ length b
 ends_within b p c e =
     let m = made b p c e in
     let l = row_within table (drop p b) c.kind m.form m.letters m.row in
@@ -140,7 +119,7 @@ ends_within b p c e =
     let g = (row_plain (drop p b) c.kind m.form m.letters m.row).least in
     omega arith
 
-bare_none : (place at n next : ℕ) (ds : List ℕ) → parameter_of Bare place at ds ≡ Right next n → length ds ≡ 0
+bare_none : (place at n next : ℕ) (ds : List ℕ) → parameter_of Bare place at ds ≡ Ok (read_to next n) → length ds ≡ 0
 bare_none place at n next [] e = refl
 bare_none place at n next (x ∷ ds) e = let z : ◌≡◌ {A = ℕ} 0 1 = cc in absurd (omega arith)
 
@@ -148,16 +127,16 @@ bare_none place at n next (x ∷ ds) e = let z : ◌≡◌ {A = ℕ} 0 1 = cc in
 pub bare_ends : (b : List ℕ) (p : ℕ) (c : Command) (m : Made b p c) → m.form ≡ Bare → c.next ≡ p + m.letters
 bare_ends b p c m e =
     let ds = param_of (drop (p + m.letters) b) in
-    let r = subst (λ (f : Form). parameter_of f p (p + m.letters) ds ≡ Right c.next c.number) e m.right in
+    let r = subst (λ (f : Form). parameter_of f p (p + m.letters) ds ≡ Ok (read_to c.next c.number)) e m.right in
     let z = bare_none p (p + m.letters) c.number c.next ds r in
     let n = m.next in
     omega arith
 
 -- a command starts with a caret, within the body
-pub starts_within : (b : List ℕ) (p : ℕ) (c : Command) → read_of b p ≡ Good c → p < length b
+pub starts_within : (b : List ℕ) (p : ℕ) (c : Command) → read_of b p ≡ Ok c → p < length b
 starts_within b p c e = let t = at_least_two b p c e in let w = ends_within b p c e in omega arith
 
-pub starts_with_caret : (b : List ℕ) (p : ℕ) (c : Command) → read_of b p ≡ Good c → get_or b p 0 ≡ caret
+pub starts_with_caret : (b : List ℕ) (p : ℕ) (c : Command) → read_of b p ≡ Ok c → get_or b p 0 ≡ caret
 starts_with_caret b p c e = go (eqb (get_or b p 0) caret) refl
   where
     go : (t : Bool) → eqb (get_or b p 0) caret ≡ t → get_or b p 0 ≡ caret
@@ -165,7 +144,7 @@ starts_with_caret b p c e = go (eqb (get_or b p 0) caret) refl
     go false t =
         let u = row_no_caret b p (starts_within b p c e) (eqb-false (get_or b p 0) caret t) in
         let m = (made b p c e).row in
-        let k : Known c.kind (made b p c e).form (made b p c e).letters ≡ Unknown = sym m ∙ u in
+        let k : Some (known c.kind (made b p c e).form (made b p c e).letters) ≡ None = sym m ∙ u in
         let z : ◌≡◌ {A = ℕ} 0 1 = cc in
         absurd (omega arith)
 
@@ -201,22 +180,22 @@ letters_plain [] = true
 letters_plain (line [] k f ∷ rows) = false
 letters_plain (line (l ∷ ls) k f ∷ rows) = no_carets ls and letters_plain rows
 
-row_letters : (rows : List Line) → letters_plain rows ≡ true → (s : List ℕ) (k : Kind) (f : Form) (n : ℕ) → row_at rows s ≡ Known k f n → (i : ℕ) → suc i < n → get_or s (suc i) 0 ≡ caret → ⊥
+row_letters : (rows : List Line) → letters_plain rows ≡ true → (s : List ℕ) (k : Kind) (f : Form) (n : ℕ) → row_at rows s ≡ Some (known k f n) → (i : ℕ) → suc i < n → get_or s (suc i) 0 ≡ caret → ⊥
 unfolding letters_plain
 row_letters [] a s k f n e i h d = let z : ◌≡◌ {A = ℕ} 0 1 = cc in omega arith
 row_letters (line [] j g ∷ rows) a s k f n e i h d = let z : ◌≡◌ {A = ℕ} 0 1 = cc in omega arith
 row_letters (line (l ∷ ls) j g ∷ rows) a s k f n e i h d = go (begins (l ∷ ls) s) refl e (row_letters rows (and_parts (no_carets ls) _ a).1 s k f n)
   where
-    go : (t : Bool) → begins (l ∷ ls) s ≡ t → when t (Known j g (suc (length ls))) (row_at rows s) ≡ Known k f n → (row_at rows s ≡ Known k f n → (i : ℕ) → suc i < n → get_or s (suc i) 0 ≡ caret → ⊥) → ⊥
+    go : (t : Bool) → begins (l ∷ ls) s ≡ t → when t (Some (known j g (suc (length ls)))) (row_at rows s) ≡ Some (known k f n) → (row_at rows s ≡ Some (known k f n) → (i : ℕ) → suc i < n → get_or s (suc i) 0 ≡ caret → ⊥) → ⊥
     go true t e' rest =
-        let y : suc (length ls) ≡ n = cc in
+        let y : suc (length ls) ≡ n = ap (λ (r : Row). r.letters) (some_one e') in
         let o : suc i < suc (length ls) = omega arith in
         let same = begins_same (l ∷ ls) s t (suc i) o in
         no_caret_at ls (and_parts (no_carets ls) _ a).0 i (omega arith) (sym same ∙ d)
     go false t e' rest = rest e' i h d
 
 -- in a command no caret stands but at its front
-pub only_caret : (b : List ℕ) (p : ℕ) (c : Command) → read_of b p ≡ Good c → (q : ℕ) → p < q → q < c.next → get_or b q 0 ≡ caret → ⊥
+pub only_caret : (b : List ℕ) (p : ℕ) (c : Command) → read_of b p ≡ Ok c → (q : ℕ) → p < q → q < c.next → get_or b q 0 ≡ caret → ⊥
 unfolding letters_plain no_carets
 only_caret b p c e q after before d =
     let m = made b p c e in
@@ -234,10 +213,11 @@ only_caret b p c e q after before d =
     let x : p + n + i ≡ q = omega arith in
     param_plain (drop (p + n) b) i o (get_or-drop (p + n) b i 0 ∙ ap (λ (k : ℕ). get_or b k 0) x ∙ d))
 
-row_from : (b d : List ℕ) (p : ℕ) → drop p b ≡ drop p d → (r : Row) → row_of b p r ≡ row_of d p r
-row_from b d p e Unknown = refl
-row_from b d p e (Known k f n) =
-    ap (λ (s : List ℕ). command_of k f (p + n) (parameter_of f p (p + n) (param_of s)))
+row_from : (b d : List ℕ) (p : ℕ) → drop p b ≡ drop p d → (r : Option Row) → row_of b p r ≡ row_of d p r
+row_from b d p e None = refl
+row_from b d p e (Some r) =
+    let n = r.letters in
+    ap (λ (s : List ℕ). made_of r.kind r.form (p + n) (parameter_of r.form p (p + n) (param_of s)))
     (sym (drop-drop n p b) ∙ ap (drop n) e ∙ drop-drop n p d)
 
 -- only the bytes from a place on decide what is read there

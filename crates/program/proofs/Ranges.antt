@@ -8,22 +8,23 @@ use borrow.Author.Tests.{eqb-true}
 use lib.Dec.{eqb}
 use lib.ListN.{length, drop}
 use Rattle.basis.specs.Choice.{when, ◌and◌, within}
-use Rattle.params.specs.Bytes.{caret, param_of, first_of}
+use Rattle.params.specs.Bytes.{caret, param_of, first_of, read_to}
 use Rattle.params.specs.Text.{wrong_of, text_of}
 use Rattle.params.specs.Number.{digits, value_of, number_of}
-use Rattle.program.specs.Table.{table, row_at}
+use Rattle.program.specs.Table.{table, row_at, known}
 use Rattle.program.specs.Answers.{letters_of}
 use Rattle.program.specs.Command.{parameter_of, read_of}
 use Rattle.program.specs.declared.Kind.{Kind}
 use Rattle.program.specs.declared.Kind.TheVariants.{II, IA, IB, S, L, E, F, R, XS, XF, P, Scans, W, XD, XB, Y}
 use Rattle.program.specs.declared.Form.{Form}
 use Rattle.program.specs.declared.Form.TheVariants.{Text, Bare, Number}
-use Rattle.program.specs.declared.Row.TheVariants.{Known}
 use Rattle.params.specs.declared.Parameter.{Parameter}
-use Rattle.params.specs.declared.Parameter.TheVariants.{Right, Wrong}
 use Rattle.program.specs.declared.Command.{Command}
-use Rattle.program.specs.declared.Reading.TheVariants.{Good}
+use Rattle.refusal.specs.declared.Fault.{Fault}
+use Rattle.refusal.specs.Refusal.{fault}
+use Rattle.std.proofs.Common.{Result, Ok, Err, Some}
 use Rattle.basis.proofs.Choices.{and_parts, within_parts}
+use Rattle.refusal.proofs.Names.{ok_one}
 use Rattle.program.proofs.Rows.{row_holds}
 use Rattle.program.proofs.Laws.{TextAt, made, ends_within}
 
@@ -78,7 +79,7 @@ forms : Kind → Form → ℕ → Bool
 forms k f n = same f (form_of k)
 
 -- a good command has its kind's form
-pub form_is : (b : List ℕ) (p : ℕ) (c : Command) (e : read_of b p ≡ Good c) → (made b p c e).form ≡ form_of c.kind
+pub form_is : (b : List ℕ) (p : ℕ) (c : Command) (e : read_of b p ≡ Ok c) → (made b p c e).form ≡ form_of c.kind
 unfolding forms same
 form_is b p c e =
     let m = made b p c e in
@@ -90,15 +91,15 @@ InRange Text n = n ≡ 0
 InRange Bare n = n ≡ 0
 InRange (Number lo hi most) n = (lo ≤ n) × (n ≤ hi)
 
-abbrev Ranged : Form → Parameter → Type 0
-Ranged f (Right next n) = InRange f n
-Ranged f (Wrong n q) = Unit {0}
+abbrev Ranged : Form → Result Parameter Fault → Type 0
+Ranged f (Ok r) = InRange f r.number
+Ranged f (Err e) = Unit {0}
 
 text_ranged : (q p at : ℕ) (ds : List ℕ) → Ranged Text (text_of q p at ds)
 text_ranged q p at [] = refl
 text_ranged q p at (x ∷ xs) = go (eqb (wrong_of q p x (first_of xs)) 0) (text_ranged p x (at + 1) xs)
   where
-    go : (t : Bool) → Ranged Text (text_of p x (at + 1) xs) → Ranged Text (when t (text_of p x (at + 1) xs) (Wrong (wrong_of q p x (first_of xs)) at))
+    go : (t : Bool) → Ranged Text (text_of p x (at + 1) xs) → Ranged Text (when t (text_of p x (at + 1) xs) (Err (fault (wrong_of q p x (first_of xs)) at)))
     go true h = h
     go false h = tt
 
@@ -108,14 +109,14 @@ ranged Bare place at [] = refl
 ranged Bare place at (x ∷ xs) = tt
 ranged (Number lo hi most) place at ds = go (digits ds and (within 1 (length ds) most and within lo (value_of 0 ds) hi)) refl
   where
-    go : (t : Bool) → digits ds and (within 1 (length ds) most and within lo (value_of 0 ds) hi) ≡ t → Ranged (Number lo hi most) (when t (Right (at + length ds) (value_of 0 ds)) (Wrong 23 place))
+    go : (t : Bool) → digits ds and (within 1 (length ds) most and within lo (value_of 0 ds) hi) ≡ t → Ranged (Number lo hi most) (when t (Ok (read_to (at + length ds) (value_of 0 ds))) (Err (fault 23 place)))
     go true e =
         let r = (and_parts (digits ds) _ e).1 in
         within_parts lo (value_of 0 ds) hi (and_parts (within 1 (length ds) most) _ r).1
     go false e = tt
 
 -- a good command's number lies in its kind's range
-pub number_in_range : (b : List ℕ) (p : ℕ) (c : Command) → read_of b p ≡ Good c → InRange (form_of c.kind) c.number
+pub number_in_range : (b : List ℕ) (p : ℕ) (c : Command) → read_of b p ≡ Ok c → InRange (form_of c.kind) c.number
 number_in_range b p c e =
     let m = made b p c e in
     let ds = param_of (drop (p + m.letters) b) in
@@ -123,7 +124,7 @@ number_in_range b p c e =
     subst (λ (f : Form). InRange f c.number) (form_is b p c e) r
 
 -- a good command's text lies within the body
-pub text_within : (b : List ℕ) (p : ℕ) (c : Command) → read_of b p ≡ Good c → c.text + c.len ≤ length b
+pub text_within : (b : List ℕ) (p : ℕ) (c : Command) → read_of b p ≡ Ok c → c.text + c.len ≤ length b
 text_within b p c e =
     let m = made b p c e in
     let w = ends_within b p c e in
@@ -143,15 +144,15 @@ record Digits (lo hi most n : ℕ) (ds : List ℕ) : Type 0 where
   value : n ≡ value_of 0 ds
   high : n ≤ hi
 
-digits_shown : (lo hi most place at n next : ℕ) (ds : List ℕ) → number_of lo hi most place at ds ≡ Right next n → Digits lo hi most n ds
+digits_shown : (lo hi most place at n next : ℕ) (ds : List ℕ) → number_of lo hi most place at ds ≡ Ok (read_to next n) → Digits lo hi most n ds
 digits_shown lo hi most place at n next ds h = go (digits ds and (within 1 (length ds) most and within lo (value_of 0 ds) hi)) refl h
   where
-    go : (t : Bool) → digits ds and (within 1 (length ds) most and within lo (value_of 0 ds) hi) ≡ t → when t (Right (at + length ds) (value_of 0 ds)) (Wrong 23 place) ≡ Right next n → Digits lo hi most n ds
+    go : (t : Bool) → digits ds and (within 1 (length ds) most and within lo (value_of 0 ds) hi) ≡ t → when t (Ok (read_to (at + length ds) (value_of 0 ds))) (Err (fault 23 place)) ≡ Ok (read_to next n) → Digits lo hi most n ds
     go true e k =
         let c = and_parts (digits ds) _ e in
         let r = and_parts (within 1 (length ds) most) _ c.1 in
         let l = within_parts 1 (length ds) most r.0 in
-        let x : value_of 0 ds ≡ n = cc in
+        let x : value_of 0 ds ≡ n = ap (λ (r : Parameter). r.number) (ok_one k) in
         let y = (within_parts lo (value_of 0 ds) hi r.1).1 in
         record {
           good = c.0;
@@ -173,18 +174,18 @@ two_digits n (x ∷ y ∷ []) d = let h = d.high in omega arith
 two_digits n (x ∷ y ∷ z ∷ ds) d = let l = d.most' in absurd (omega arith)
 
 -- an `L` of more than 9 turns has two digits, so its command is longer: what bounds the steps of a program
-pub loop_digits : (b : List ℕ) (p : ℕ) (c : Command) (e : read_of b p ≡ Good c) → c.kind ≡ L → c.number + 81 + 90 * (p + (made b p c e).letters) ≤ 90 * c.next
+pub loop_digits : (b : List ℕ) (p : ℕ) (c : Command) (e : read_of b p ≡ Ok c) → c.kind ≡ L → c.number + 81 + 90 * (p + (made b p c e).letters) ≤ 90 * c.next
 loop_digits b p c e k =
     let m = made b p c e in
     let ds = param_of (drop (p + m.letters) b) in
     let f : m.form ≡ Number 1 99 2 = form_is b p c e ∙ ap form_of k in
-    let r = subst (λ (x : Form). parameter_of x p (p + m.letters) ds ≡ Right c.next c.number) f m.right in
+    let r = subst (λ (x : Form). parameter_of x p (p + m.letters) ds ≡ Ok (read_to c.next c.number)) f m.right in
     let d = two_digits c.number ds (digits_shown 1 99 2 p (p + m.letters) c.number c.next ds r) in
     let n = m.next in
     omega arith
 
 -- the letters of each kind, behind a caret, are read as that kind, with its form
-pub letters_read : (k : Kind) (s : List ℕ) → row_at table (caret ∷ letters_of k ++ s) ≡ Known k (form_of k) (suc (length (letters_of k)))
+pub letters_read : (k : Kind) (s : List ℕ) → row_at table (caret ∷ letters_of k ++ s) ≡ Some (known k (form_of k) (suc (length (letters_of k))))
 letters_read II s = refl
 letters_read IA s = refl
 letters_read IB s = refl

@@ -10,12 +10,12 @@ use lib.ListN.{length, get_or, drop, length-drop, drop_of_length-le}
 use lib.Seq.{get_or-drop}
 use Rattle.basis.specs.Choice.{when, ◌and◌}
 use Rattle.params.specs.Bytes.{caret}
-use Rattle.program.specs.Table.{Line, line, table, begins, row_at}
+use Rattle.program.specs.Table.{Line, line, table, begins, row_at, known}
 use Rattle.program.specs.Command.{row_of, read_of}
 use Rattle.program.specs.declared.Kind.{Kind}
 use Rattle.program.specs.declared.Form.{Form}
 use Rattle.program.specs.declared.Row.{Row}
-use Rattle.program.specs.declared.Row.TheVariants.{Known, Unknown}
+use Rattle.std.proofs.Common.{Some, None, Option}
 use Rattle.basis.proofs.Lists.{drop_next, get_or_other}
 use Rattle.basis.proofs.Choices.{and_parts}
 
@@ -24,22 +24,23 @@ abbrev pub holds : (Kind → Form → ℕ → Bool) → List Line → Bool
 holds t [] = true
 holds t (line ls k f ∷ rows) = t k f (length ls) and holds t rows
 
-found_holds : (t : Kind → Form → ℕ → Bool) (rows : List Line) → holds t rows ≡ true → (s : List ℕ) (k : Kind) (f : Form) (n : ℕ) → row_at rows s ≡ Known k f n → t k f n ≡ true
+found_holds : (t : Kind → Form → ℕ → Bool) (rows : List Line) → holds t rows ≡ true → (s : List ℕ) (k : Kind) (f : Form) (n : ℕ) → row_at rows s ≡ Some (known k f n) → t k f n ≡ true
 found_holds t [] a s k f n e = let z : ◌≡◌ {A = ℕ} 0 1 = cc in absurd (omega arith)
 found_holds t (line ls j g ∷ rows) a s k f n e =
     go (begins ls s) e (found_holds t rows (and_parts (t j g (length ls)) _ a).1 s k f n)
   where
-    go : (b : Bool) → when b (Known j g (length ls)) (row_at rows s) ≡ Known k f n → (row_at rows s ≡ Known k f n → t k f n ≡ true) → t k f n ≡ true
+    go : (b : Bool) → when b (Some (known j g (length ls))) (row_at rows s) ≡ Some (known k f n) → (row_at rows s ≡ Some (known k f n) → t k f n ≡ true) → t k f n ≡ true
     go true e' h =
         let p = (and_parts (t j g (length ls)) _ a).0 in
-        let x : j ≡ k = cc in
-        let y : g ≡ f = cc in
-        let z : length ls ≡ n = cc in
+        let same : known j g (length ls) ≡ known k f n = cc in
+        let x : j ≡ k = ap (λ (r : Row). r.kind) same in
+        let y : g ≡ f = ap (λ (r : Row). r.form) same in
+        let z : length ls ≡ n = ap (λ (r : Row). r.letters) same in
         rw (← x, ← y, ← z) p
     go false e' h = h e'
 
 -- what every line of the table passes, the row passes that the bytes name
-pub row_holds : (t : Kind → Form → ℕ → Bool) → holds t table ≡ true → (s : List ℕ) (k : Kind) (f : Form) (n : ℕ) → row_at table s ≡ Known k f n → t k f n ≡ true
+pub row_holds : (t : Kind → Form → ℕ → Bool) → holds t table ≡ true → (s : List ℕ) (k : Kind) (f : Form) (n : ℕ) → row_at table s ≡ Some (known k f n) → t k f n ≡ true
 row_holds t a = found_holds t table a
 
 -- the caret and the letters are two or three bytes
@@ -50,7 +51,7 @@ pub record Plainly (n : ℕ) : Type 0 where
   pub least : 2 ≤ n
   pub most : n ≤ 3
 
-pub row_plain : (s : List ℕ) (k : Kind) (f : Form) (n : ℕ) → row_at table s ≡ Known k f n → Plainly n
+pub row_plain : (s : List ℕ) (k : Kind) (f : Form) (n : ℕ) → row_at table s ≡ Some (known k f n) → Plainly n
 unfolding plain
 row_plain s k f n h =
     let e = found_holds plain table refl s k f n h in
@@ -75,22 +76,22 @@ row_at_place b p x y h e ex ey =
     ∙ ap (λ (k : ℕ). row_at table (caret ∷ k ∷ get_or (drop p b) 2 caret ∷ [])) (get_or-drop p b 1 caret ∙ sym ex)
     ∙ ap (λ (k : ℕ). row_at table (caret ∷ x ∷ k ∷ [])) (get_or-drop p b 2 caret ∙ sym ey)
 
-no_caret : (x : ℕ) (s : List ℕ) → (x ≡ caret → ⊥) → row_at table (x ∷ s) ≡ Unknown
+no_caret : (x : ℕ) (s : List ℕ) → (x ≡ caret → ⊥) → row_at table (x ∷ s) ≡ None
 no_caret x s h = simp (ne_eqb x caret h)
 
 -- where no caret stands, no row
-pub row_no_caret : (b : List ℕ) (p : ℕ) → p < length b → (get_or b p 0 ≡ caret → ⊥) → row_at table (drop p b) ≡ Unknown
+pub row_no_caret : (b : List ℕ) (p : ℕ) → p < length b → (get_or b p 0 ≡ caret → ⊥) → row_at table (drop p b) ≡ None
 row_no_caret b p h n =
     ap (row_at table) (drop_next b p caret h) ∙ no_caret (get_or b p caret) (drop (p + 1) b) (λ e. n (get_or_other b p 0 caret h ∙ e))
 
-pub row_behind : (b : List ℕ) (p : ℕ) → length b ≤ p → row_at table (drop p b) ≡ Unknown
+pub row_behind : (b : List ℕ) (p : ℕ) → length b ≤ p → row_at table (drop p b) ≡ None
 row_behind b p h = ap (row_at table) (drop_of_length-le b h)
 
 -- what stands at a place, by the row that was found there
-module _ (b : List ℕ) (p x y : ℕ) (found : Row) (h : p < length b) (e : get_or b p 0 ≡ caret) (ex : x ≡ get_or b (p + 1) caret) (ey : y ≡ get_or b (p + 2) caret) (ef : found ≡ row_at table (caret ∷ x ∷ y ∷ [])) where
-  pub read_row : (r : Row) → found ≡ r → read_of b p ≡ row_of b p r
+module _ (b : List ℕ) (p x y : ℕ) (found : Option Row) (h : p < length b) (e : get_or b p 0 ≡ caret) (ex : x ≡ get_or b (p + 1) caret) (ey : y ≡ get_or b (p + 2) caret) (ef : found ≡ row_at table (caret ∷ x ∷ y ∷ [])) where
+  pub read_row : (r : Option Row) → found ≡ r → read_of b p ≡ row_of b p r
   unfolding read_of
   read_row r t = ap (row_of b p) (row_at_place b p x y h e ex ey ∙ sym ef ∙ t)
 
-  pub found_row : (k : Kind) (f : Form) (n : ℕ) → found ≡ Known k f n → Plainly n
+  pub found_row : (k : Kind) (f : Form) (n : ℕ) → found ≡ Some (known k f n) → Plainly n
   found_row k f n t = row_plain (caret ∷ x ∷ y ∷ []) k f n (sym ef ∙ t)

@@ -1,5 +1,5 @@
 -- The table of commands, L9 to L24: the letters after the caret, the kind, and the form of the parameter (L3).
-use Rattle.std.specs.Prelude.{ℕ, List, [], ◌∷◌, Bool, true, false, eqb, length}
+use Rattle.std.specs.Prelude.{ℕ, List, [], ◌∷◌, Bool, true, false, eqb, length, Option, None, Some}
 use Rattle.basis.specs.Choice.{when, ◌and◌}
 use Rattle.params.specs.Bytes.{caret}
 use Rattle.program.specs.declared.Kind.{Kind}
@@ -7,7 +7,6 @@ use Rattle.program.specs.declared.Kind.TheVariants.{II, IA, IB, S, L, E, F, R, X
 use Rattle.program.specs.declared.Form.{Form}
 use Rattle.program.specs.declared.Form.TheVariants.{Text, Bare, Number}
 use Rattle.program.specs.declared.Row.{Row}
-use Rattle.program.specs.declared.Row.TheVariants.{Known, Unknown}
 
 -- a line of the table: the caret and the letters, the kind, what follows
 pub data Line : Type 0 where
@@ -46,7 +45,11 @@ begins [] s = true
 begins (l ∷ ls) [] = false
 begins (l ∷ ls) (x ∷ xs) = eqb x l and begins ls xs
 
+-- a row by its parts
+abbrev pub known : Kind → Form → ℕ → Row
+known k f letters = record { kind = k; form = f; letters = letters }
+
 -- the line whose letters the bytes begin with, and how many bytes those are
-abbrev pub row_at : List Line → List ℕ → Row
-row_at [] s = Unknown
-row_at (line ls k f ∷ t) s = when (begins ls s) (Known k f (length ls)) (row_at t s)
+abbrev pub row_at : List Line → List ℕ → Option Row
+row_at [] s = None
+row_at (line ls k f ∷ t) s = when (begins ls s) (Some (known k f (length ls))) (row_at t s)

@@ -44,9 +44,10 @@ pub enum Form {
 
 // The row of the table that a command's letters name, with how many bytes the caret and the letters take.
 #[derive(Clone, Copy)]
-pub enum Row {
-    Known(Kind, Form, usize),
-    Unknown,
+pub struct Row {
+    pub kind: Kind,
+    pub form: Form,
+    pub letters: usize,
 }
 
 // One command: `next` is the place behind it; what it lacks is 0.
@@ -57,11 +58,4 @@ pub struct Command {
     pub text: usize,
     pub len: usize,
     pub kind: Kind,
-}
-
-// What stands at a place: a good command, or the refusal and its place.
-#[derive(Clone, Copy)]
-pub enum Reading {
-    Good(Command),
-    Refused(u8, usize),
 }

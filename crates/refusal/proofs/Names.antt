@@ -1,5 +1,5 @@
 -- Names and numbers for no are one to one, and a table whose numbers have names gives one of them.
-use Rattle.std.proofs.Common.{◌≡◌, ℕ, zero, suc, ◌<◌, Bool, true, false, List, [], ◌∷◌, sym, refl, ap, ◌∙◌, arith}
+use Rattle.std.proofs.Common.{◌≡◌, ℕ, zero, suc, ◌<◌, Bool, true, false, List, [], ◌∷◌, sym, refl, ap, ◌∙◌, arith, Result, Ok, Err, Option, Some}
 use Rattle.basis.specs.Choice.{when}
 use Rattle.basis.specs.Rows.{Row, ◌if◌, first_of}
 use Rattle.refusal.specs.Refusal.{number_of, refusal_of, fault, Named, AllNamed}
@@ -91,3 +91,13 @@ first_named (n if b ∷ rows) all h = go b (first_named rows all.1) h
 -- a fault is made of its number and its place
 pub fault_back : (f : Fault) → fault (number_of f.refusal) f.place ≡ f
 fault_back f = ap (λ (e : Refusal). record { refusal = e; place = f.place }) (name_back f.refusal)
+
+-- what is within an `Ok`, an `Err` or a `Some` is one where these are
+pub ok_one : {A E : Type 0} {x y : A} → ◌≡◌ {A = Result A E} (Ok x) (Ok y) → x ≡ y
+ok_one h = cc
+
+pub err_one : {A E : Type 0} {x y : E} → ◌≡◌ {A = Result A E} (Err x) (Err y) → x ≡ y
+err_one h = cc
+
+pub some_one : {A : Type 0} {x y : A} → ◌≡◌ {A = Option A} (Some x) (Some y) → x ≡ y
+some_one h = cc

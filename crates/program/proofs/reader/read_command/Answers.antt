@@ -1,48 +1,56 @@
 -- `program::reader::read_command` meets its contract: the three bytes at the place decide the row, and the row says which form the
 -- parameter has.
-use mathlib.Core.Path.{sym, ap, ◌∙◌}
 use Prim.Native.Nat.{◌+◌}
+use mathlib.Core.Path.{sym, ap, ◌∙◌}
 use lib.ListN.{drop}
+use Rattle.std.proofs.Common.{Option, Ok, Err, None}
+use Rattle.std.proofs.lemmas.Result.{err_from_is_err_and}
+use Rattle.std.specs.Option.{ok_or}
 use Rattle.params.specs.Bytes.{param_of}
-use Rattle.program.specs.Command.{command_of, row_of, read_of}
-use Rattle.program.specs.declared.Row.TheVariants.{Unknown}
-use Rattle.program.proofs.Rows.{row_behind, row_no_caret, read_row, found_row}
+use Rattle.program.specs.Command.{made_of, row_of, read_of}
+use Rattle.program.specs.declared.Row.{Row}
+use Rattle.refusal.specs.Refusal.{fault}
+use Rattle.refusal.proofs.Names.{err_one}
+use Rattle.program.proofs.Rows.{row_behind, row_no_caret, read_row}
 use Rattle.program.proofs.Parameters.{ends_after}
-use borrow.Author.Rules.{rules}
 use Rattle.program.proofs.reader.read_command.Goals as goal
+use Rattle.program.proofs.reader.read_command.Goals.{then-body-place-via-then-body-place, then-body-place-via-else-body-place+then-body-place-ne-CARET}
 
 pub returns-then-body-place : goal.returns-then-body-place
 unfolding read_of
 returns-then-body-place c =
     let a = c.args in
-    sym (ap (row_of a.body.now a.place) (row_behind a.body.now a.place c.if-body-place.true))
+    elim c.then-body-place.branch [
+      | then-body-place-via-then-body-place w ↦ sym (ap (row_of a.body.now a.place) (row_behind a.body.now a.place w.if-body-place.true))
+      | then-body-place-via-else-body-place+then-body-place-ne-CARET w ↦ sym (ap (row_of a.body.now a.place) (row_no_caret a.body.now a.place w.if-body-place.false w.if-body-place-ne-CARET.true))
+    ]
 
-pub returns-then-body-place-ne-CARET : goal.returns-then-body-place-ne-CARET
-unfolding read_of
-returns-then-body-place-ne-CARET c =
+pub returns-in_err-found : goal.returns-in_err-found
+returns-in_err-found c =
     let a = c.args in
-    sym (ap (row_of a.body.now a.place) (row_no_caret a.body.now a.place c.if-body-place.false c.if-body-place-ne-CARET.true))
+    let p = err_from_is_err_and c.from_residual.result c.from_residual.ensures.1 in
+    let none = c.in_err-found.ensures.ok_part in
+    let same = err_one (c.in_err-found.ensures.value ∙ ap (λ (o : Option Row). ok_or o (fault 22 a.place)) none) in
+    p.1 ∙ ap Err (p.2 ∙ same)
+    ∙ sym (read_row a.body.now a.place c.byte_at-x.result c.byte_at-y.result c.row.result c.if-body-place.false c.if-body-place-ne-CARET.false c.byte_at-x.ensures c.byte_at-y.ensures c.row.ensures None none)
 
-pub overflow_add-from : goal.overflow_add-from
-overflow_add-from c =
+pub returns-in_err-read : goal.returns-in_err-read
+returns-in_err-read c =
     let a = c.args in
-    let l = found_row a.body.now a.place c.byte_at-x.result c.byte_at-y.result c.row-found.result c.if-body-place.false c.if-body-place-ne-CARET.false c.byte_at-x.ensures c.byte_at-y.ensures c.row-found.ensures _ _ _ c.in-Known.is in
-    let m = l.most in
-    let h = c.if-body-place.false in
-    search rules
+    let p = err_from_is_err_and c.from_residual-in_err-read.result c.from_residual-in_err-read.ensures.1 in
+    p.1 ∙ ap Err p.2
+    ∙ ap (made_of _ _ _) c.in_err-read.ensures
+    ∙ sym (read_row a.body.now a.place c.byte_at-x.result c.byte_at-y.result c.row.result c.if-body-place.false c.if-body-place-ne-CARET.false c.byte_at-x.ensures c.byte_at-y.ensures c.row.ensures _ c.in_ok-found.ensures.ok_part)
 
 pub command-requires : goal.command-requires
 command-requires c =
     let a = c.args in
-    let at = a.place + c.in-Known.letters in
-    ends_after c.in-Known.form a.place at (param_of (drop at a.body.now)) c.parameter-read.result c.parameter-read.ensures
+    let at = a.place + c.in_ok-found.found.letters in
+    ends_after c.in_ok-found.found.form a.place at (param_of (drop at a.body.now)) c.in_ok-read.read (sym c.in_ok-read.ensures)
 
-pub returns-in-Unknown : goal.returns-in-Unknown
-returns-in-Unknown c =
+pub returns : goal.returns
+returns c =
     let a = c.args in
-    sym (read_row a.body.now a.place c.byte_at-x.result c.byte_at-y.result c.row-found.result c.if-body-place.false c.if-body-place-ne-CARET.false c.byte_at-x.ensures c.byte_at-y.ensures c.row-found.ensures Unknown c.in-Unknown.is)
-
-pub returns-in-Known : goal.returns-in-Known
-returns-in-Known c =
-    let a = c.args in
-    c.command.ensures ∙ ap (command_of _ _ _) c.parameter-read.ensures ∙ sym (read_row a.body.now a.place c.byte_at-x.result c.byte_at-y.result c.row-found.result c.if-body-place.false c.if-body-place-ne-CARET.false c.byte_at-x.ensures c.byte_at-y.ensures c.row-found.ensures _ c.in-Known.is)
+    ap Ok c.command.ensures
+    ∙ ap (made_of _ _ _) c.in_ok-read.ensures
+    ∙ sym (read_row a.body.now a.place c.byte_at-x.result c.byte_at-y.result c.row.result c.if-body-place.false c.if-body-place-ne-CARET.false c.byte_at-x.ensures c.byte_at-y.ensures c.row.ensures _ c.in_ok-found.ensures.ok_part)

@@ -13,38 +13,37 @@ use Rattle.program.specs.declared.Kind.{Kind}
 use Rattle.program.specs.declared.Form.{Form}
 use Rattle.program.specs.declared.Form.TheVariants.{Text, Bare, Number}
 use Rattle.program.specs.declared.Command.{Command}
-use Rattle.program.specs.declared.Reading.{Reading}
-use Rattle.program.specs.declared.Reading.TheVariants.{Good, Refused}
 use Rattle.basis.proofs.Choices.{and_parts, when_true, when_false}
+use Rattle.refusal.proofs.Names.{some_one}
 use Rattle.program.proofs.Rows.{row_holds}
 use Rattle.program.proofs.Laws.{made, at_least_two, bare_ends}
 use Rattle.loops.specs.Token.{role_of, Tok, size_of, part_of, act_of, tok_of, get}
 use Rattle.loops.specs.Structure.{Structure, broken, kept, structure_of, role_in, opened, moved, move_of}
-use Rattle.loops.specs.Flow.{room_of, ended_of, opens_of, flow_of, rule_of, turn_of, here_of, turned_of}
+use Rattle.loops.specs.Flow.{room_of, ended_of, opens_of, flow_of, rule_of, turn_of, here_of, turned_of, go_on}
 use Rattle.loops.specs.declared.Role.{Role}
 use Rattle.loops.specs.declared.Role.TheVariants.{Plain, Repeat, Close, Forever, Again}
 use Rattle.loops.specs.declared.Open.{Open}
 use Rattle.loops.specs.declared.Flow.{Flow}
-use Rattle.loops.specs.declared.Rule.{Rule}
-use Rattle.loops.specs.declared.Rule.TheVariants.{Broken, Kept}
 use Rattle.loops.specs.declared.Turn.{Turn}
-use Rattle.loops.specs.declared.Turn.TheVariants.{Stop, Next}
+use Rattle.refusal.specs.declared.Fault.{Fault}
+use Rattle.refusal.specs.Refusal.{fault}
+use Rattle.std.proofs.Common.{Result, Ok, Err, Option, Some, None}
 
 -- the rule at a known role, and at a known flow
 pub rule_role : (m : ℕ) (here : Open) (o : List Open) (r k : Role) → r ≡ k → rule_of (structure_of k m here o) ≡ rule_of (structure_of r m here o)
 rule_role m here o r k e = ap (λ (j : Role). rule_of (structure_of j m here o)) (sym e)
 
-pub rule_flow : (r : Role) (here : Open) (f g : Flow) (x : Rule) → f ≡ g → x ≡ rule_of (structure_of r (room_of g) here (opens_of g)) → x ≡ rule_of (structure_of r (room_of f) here (opens_of f))
+pub rule_flow : (r : Role) (here : Open) (f g : Flow) (x : Option Flow) → f ≡ g → x ≡ rule_of (structure_of r (room_of g) here (opens_of g)) → x ≡ rule_of (structure_of r (room_of f) here (opens_of f))
 rule_flow r here f g x e h = h ∙ ap (λ (k : Flow). rule_of (structure_of r (room_of k) here (opens_of k))) (sym e)
 
 -- what the rule says, as a move
-pub turn_broken : (p next : ℕ) (s : Structure) → rule_of s ≡ Broken → Stop 26 p ≡ turn_of (moved p next s)
+pub turn_broken : (p next : ℕ) (s : Structure) → rule_of s ≡ None → Err (fault 26 p) ≡ turn_of (moved p next s)
 turn_broken p next broken e = refl
 turn_broken p next (kept m e' o) e = let z : ◌≡◌ {A = ℕ} 0 1 = cc in absurd (omega arith)
 
-pub turn_kept : (p next : ℕ) (f : Flow) (s : Structure) → rule_of s ≡ Kept f → Next next f ≡ turn_of (moved p next s)
-turn_kept p next f broken e = let z : ◌≡◌ {A = ℕ} 0 1 = cc in absurd (omega arith)
-turn_kept p next f (kept m e' o) e = let z : flow_of e' o ≡ f = cc in ap (Next next) (sym z)
+pub turn_kept : (p place : ℕ) (f : Flow) (s : Structure) → rule_of s ≡ Some f → Ok (go_on place f) ≡ turn_of (moved p place s)
+turn_kept p place f broken e = let z : ◌≡◌ {A = ℕ} 0 1 = cc in absurd (omega arith)
+turn_kept p place f (kept m e' o) e = ap (λ (g : Flow). Ok (go_on place g)) (sym (some_one e))
 
 -- `E`, `F` and `R` are two bytes without parameter
 is_bare : Form → Bool
@@ -68,7 +67,7 @@ short Again f n = is_bare f and eqb n 2
 shorts : Kind → Form → ℕ → Bool
 shorts k f n = short (role_of k) f n
 
-module _ (b : List ℕ) (p : ℕ) (c : Command) (e : read_of b p ≡ Good c) where
+module _ (b : List ℕ) (p : ℕ) (c : Command) (e : read_of b p ≡ Ok c) where
   two_bytes : (is_bare (made b p c e).form and eqb (made b p c e).letters 2 ≡ true) → c.next ≡ p + 2
   two_bytes t =
       let m = made b p c e in
@@ -112,26 +111,26 @@ module _ (b : List ℕ) (p : ℕ) (c : Command) (e : read_of b p ≡ Good c) whe
   good_by Again h m [] = ap (λ (x : ℕ). moved p x (kept m true [])) (next_is Again h)
   good_by Again h m (l ∷ o) = refl
 
-  pub turn_good : (f : Flow) (x : Turn) → ended_of f ≡ false → x ≡ turn_of (moved p c.next (structure_of (role_of c.kind) (room_of f) (here_of p c) (opens_of f))) → x ≡ turn_of (move_of (get b p) (room_of f) p (ended_of f) (opens_of f))
+  pub turn_good : (f : Flow) (x : Result Turn Fault) → ended_of f ≡ false → x ≡ turn_of (moved p c.next (structure_of (role_of c.kind) (room_of f) (here_of p c) (opens_of f))) → x ≡ turn_of (move_of (get b p) (room_of f) p (ended_of f) (opens_of f))
   turn_good f x n h =
       h
       ∙ ap turn_of (sym (good_by (role_of c.kind) refl (room_of f) (opens_of f)))
       ∙ ap (λ (t : Tok). turn_of (move_of t (room_of f) p false (opens_of f))) (ap (tok_of b p) (sym e))
       ∙ ap (λ (t : Bool). turn_of (move_of (get b p) (room_of f) p t (opens_of f))) (sym n)
 
-pub turn_bad : (b : List ℕ) (p n q : ℕ) (f : Flow) → ended_of f ≡ false → read_of b p ≡ Refused n q → Stop n q ≡ turn_of (move_of (get b p) (room_of f) p (ended_of f) (opens_of f))
-turn_bad b p n q f h e =
+pub turn_bad : (b : List ℕ) (p : ℕ) (w : Fault) (f : Flow) → ended_of f ≡ false → read_of b p ≡ Err w → Err w ≡ turn_of (move_of (get b p) (room_of f) p (ended_of f) (opens_of f))
+turn_bad b p w f h e =
     ap (λ (t : Tok). turn_of (move_of t (room_of f) p false (opens_of f))) (ap (tok_of b p) (sym e))
     ∙ ap (λ (t : Bool). turn_of (move_of (get b p) (room_of f) p t (opens_of f))) (sym h)
 
-pub turn_ended : (b : List ℕ) (p : ℕ) (f : Flow) → ended_of f ≡ true → Stop 27 p ≡ turn_of (move_of (get b p) (room_of f) p (ended_of f) (opens_of f))
+pub turn_ended : (b : List ℕ) (p : ℕ) (f : Flow) → ended_of f ≡ true → Err (fault 27 p) ≡ turn_of (move_of (get b p) (room_of f) p (ended_of f) (opens_of f))
 turn_ended b p f h = ap (λ (t : Bool). turn_of (move_of (get b p) (room_of f) p t (opens_of f))) (sym h)
 
 -- what was read of a body, judged, is the command there judged
 pub turned_is : (b : List ℕ) (p : ℕ) (f : Flow) → turned_of (read_of b p) p f ≡ turn_of (move_of (get b p) (room_of f) p (ended_of f) (opens_of f))
 turned_is b p f = go (ended_of f) refl (read_of b p) refl
   where
-    go : (t : Bool) → ended_of f ≡ t → (r : Reading) → read_of b p ≡ r → turned_of r p f ≡ turn_of (move_of (get b p) (room_of f) p (ended_of f) (opens_of f))
+    go : (t : Bool) → ended_of f ≡ t → (r : Result Command Fault) → read_of b p ≡ r → turned_of r p f ≡ turn_of (move_of (get b p) (room_of f) p (ended_of f) (opens_of f))
     go true w r e = when_true (ended_of f) _ _ w ∙ turn_ended b p f w
-    go false w (Refused n q) e = when_false (ended_of f) _ _ w ∙ turn_bad b p n q f w e
-    go false w (Good c) e = when_false (ended_of f) _ _ w ∙ turn_good b p c e f _ w refl
+    go false w (Err x) e = when_false (ended_of f) _ _ w ∙ turn_bad b p x f w e
+    go false w (Ok c) e = when_false (ended_of f) _ _ w ∙ turn_good b p c e f _ w refl

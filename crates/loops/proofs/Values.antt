@@ -9,8 +9,8 @@ use Rattle.measure.specs.Width.{widths_of}
 use Rattle.program.specs.declared.Kind.{Kind}
 use Rattle.program.specs.declared.Kind.TheVariants.{II, IA, IB, S, L, E, F, R, XS, XF, P, Scans, W, XD, XB, Y}
 use Rattle.program.specs.declared.Command.{Command}
-use Rattle.program.specs.declared.Reading.{Reading}
-use Rattle.program.specs.declared.Reading.TheVariants.{Good, Refused}
+use Rattle.refusal.specs.declared.Fault.{Fault}
+use Rattle.std.proofs.Common.{Result, Ok, Err}
 use Rattle.program.proofs.Rows.{row_plain}
 use Rattle.program.proofs.Laws.{made, at_least_two}
 use Rattle.program.proofs.Ranges.{form_of, InRange, number_in_range, text_within, loop_digits}
@@ -42,7 +42,7 @@ pub record Loops (n z : ℕ) : Type 0 where
   pub most : n ≤ 99
   pub digits : n + 261 ≤ 90 * z
 
-by_role : (b : List ℕ) (p : ℕ) (k : Command) → read_of b p ≡ Good k → (r : Role) → role_of k.kind ≡ r → (n z : ℕ) → part_of r (act_of b p k) ≡ rep n z → Loops n z
+by_role : (b : List ℕ) (p : ℕ) (k : Command) → read_of b p ≡ Ok k → (r : Role) → role_of k.kind ≡ r → (n z : ℕ) → part_of r (act_of b p k) ≡ rep n z → Loops n z
 by_role b p k e Repeat h n z q =
     let l = repeat_is k.kind h in
     let m = made b p k e in
@@ -58,11 +58,11 @@ by_role b p k e Close h n z q = let w : ◌≡◌ {A = ℕ} 0 1 = cc in absurd (
 by_role b p k e Forever h n z q = let w : ◌≡◌ {A = ℕ} 0 1 = cc in absurd (omega arith)
 by_role b p k e Again h n z q = let w : ◌≡◌ {A = ℕ} 0 1 = cc in absurd (omega arith)
 
-by_reading : (b : List ℕ) (p : ℕ) (r : Reading) → read_of b p ≡ r → (n z : ℕ) → tok_of b p r ≡ good (rep n z) → Loops n z
-by_reading b p (Good k) e n z h =
+by_reading : (b : List ℕ) (p : ℕ) (r : Result Command Fault) → read_of b p ≡ r → (n z : ℕ) → tok_of b p r ≡ good (rep n z) → Loops n z
+by_reading b p (Ok k) e n z h =
     let q : part_of (role_of k.kind) (act_of b p k) ≡ rep n z = cc in
     by_role b p k e (role_of k.kind) refl n z q
-by_reading b p (Refused n' q) e n z h = let w : ◌≡◌ {A = ℕ} 0 1 = cc in absurd (omega arith)
+by_reading b p (Err x) e n z h = let w : ◌≡◌ {A = ℕ} 0 1 = cc in absurd (omega arith)
 
 pub get_loop : (b : List ℕ) (p n z : ℕ) → get b p ≡ good (rep n z) → Loops n z
 get_loop b p n z h = by_reading b p (read_of b p) refl n z h
@@ -75,7 +75,7 @@ pub record Acts (b : List ℕ) (a : Act) : Type 0 where
   pub within : a.text + a.len ≤ length b
   pub wide : a.widths ≡ widths_of (take a.len (drop a.text b))
 
-act_role : (b : List ℕ) (p : ℕ) (k : Command) → read_of b p ≡ Good k → (r : Role) → role_of k.kind ≡ r → (a : Act) → part_of r (act_of b p k) ≡ act a → Acts b a
+act_role : (b : List ℕ) (p : ℕ) (k : Command) → read_of b p ≡ Ok k → (r : Role) → role_of k.kind ≡ r → (a : Act) → part_of r (act_of b p k) ≡ act a → Acts b a
 act_role b p k e Plain h a q =
     let s : act_of b p k ≡ a = cc in
     subst (Acts b) s (record { plain = h; range = number_in_range b p k e; within = text_within b p k e; wide = refl })
@@ -84,11 +84,11 @@ act_role b p k e Close h a q = let w : ◌≡◌ {A = ℕ} 0 1 = cc in absurd (o
 act_role b p k e Forever h a q = let w : ◌≡◌ {A = ℕ} 0 1 = cc in absurd (omega arith)
 act_role b p k e Again h a q = let w : ◌≡◌ {A = ℕ} 0 1 = cc in absurd (omega arith)
 
-act_reading : (b : List ℕ) (p : ℕ) (r : Reading) → read_of b p ≡ r → (a : Act) → tok_of b p r ≡ good (act a) → Acts b a
-act_reading b p (Good k) e a h =
+act_reading : (b : List ℕ) (p : ℕ) (r : Result Command Fault) → read_of b p ≡ r → (a : Act) → tok_of b p r ≡ good (act a) → Acts b a
+act_reading b p (Ok k) e a h =
     let q : part_of (role_of k.kind) (act_of b p k) ≡ act a = cc in
     act_role b p k e (role_of k.kind) refl a q
-act_reading b p (Refused n q) e a h = let w : ◌≡◌ {A = ℕ} 0 1 = cc in absurd (omega arith)
+act_reading b p (Err w) e a h = let w : ◌≡◌ {A = ℕ} 0 1 = cc in absurd (omega arith)
 
 pub get_act : (b : List ℕ) (p : ℕ) (a : Act) → get b p ≡ good (act a) → Acts b a
 get_act b p a h = act_reading b p (read_of b p) refl a h

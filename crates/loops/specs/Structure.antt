@@ -4,6 +4,8 @@ use Rattle.loops.specs.Token.{Part, act, rep, close, forever, again, Tok, good, 
 use Rattle.loops.specs.declared.Role.{Role}
 use Rattle.loops.specs.declared.Role.TheVariants.{Plain, Repeat, Close, Forever, Again}
 use Rattle.loops.specs.declared.Open.{Open}
+use Rattle.refusal.specs.Refusal.{fault}
+use Rattle.refusal.specs.declared.Fault.{Fault}
 
 -- what the rule says of a command: it may not stand there; or how many loops may still be opened, whether the program is
 -- ended, and the open loops, innermost first
@@ -42,17 +44,17 @@ number_in again = 0
 abbrev pub opened : ℕ → Part → Open
 opened p c = record { caret = p; behind = p + size_of c; number = number_in c }
 
--- one command judged: a refusal and its place; or the place behind it, and as above
+-- one command judged: a refusal with its place; or the place behind it, and as above
 pub data Move : Type 0 where
-  stop : ℕ → ℕ → Move
+  stop : Fault → Move
   go : ℕ → ℕ → Bool → List Open → Move
 
 abbrev pub moved : (place next : ℕ) → Structure → Move
-moved p next broken = stop 26 p
+moved p next broken = stop (fault 26 p)
 moved p next (kept m e o) = go next m e o
 
 -- within one command: 27, then what is wrong with the command itself, then the structure
 abbrev pub move_of : Tok → (room place : ℕ) → Bool → List Open → Move
-move_of t m p true o = stop 27 p
-move_of (bad n q) m p false o = stop n q
+move_of t m p true o = stop (fault 27 p)
+move_of (bad w) m p false o = stop w
 move_of (good c) m p false o = moved p (p + size_of c) (structure_of (role_in c) m (opened p c) o)

@@ -1,6 +1,6 @@
 -- A command as the structure of a program sees it, and the list of a body's commands.
 -- Rules L1 and L2 for the list, L13 to L16 for `L`, `E`, `F` and `R`, S3, S4 and S15 for the values of the others.
-use Rattle.std.specs.Prelude.{ℕ, zero, suc, ◌+◌, ◌-◌, List, [], ◌∷◌, ltb, length, take, drop}
+use Rattle.std.specs.Prelude.{ℕ, zero, suc, ◌+◌, ◌-◌, List, [], ◌∷◌, ltb, length, take, drop, Result, Ok, Err}
 use Rattle.basis.specs.Choice.{when}
 use Rattle.program.specs.Command.{read_of}
 use Rattle.measure.specs.Width.{widths_of}
@@ -8,8 +8,7 @@ use Rattle.measure.specs.declared.width.Widths.{Widths}
 use Rattle.program.specs.declared.Kind.{Kind}
 use Rattle.program.specs.declared.Kind.TheVariants.{II, IA, IB, S, L, E, F, R, XS, XF, P, Scans, W, XD, XB, Y}
 use Rattle.program.specs.declared.Command.{Command}
-use Rattle.program.specs.declared.Reading.{Reading}
-use Rattle.program.specs.declared.Reading.TheVariants.{Good, Refused}
+use Rattle.refusal.specs.declared.Fault.{Fault}
 use Rattle.loops.specs.declared.Role.{Role}
 use Rattle.loops.specs.declared.Role.TheVariants.{Plain, Repeat, Close, Forever, Again}
 
@@ -49,10 +48,10 @@ pub data Part : Type 0 where
   forever : Part
   again : Part
 
--- what stands at a place: a good command, or a refusal's number and place
+-- what stands at a place: a good command, or a refusal with its place
 pub data Tok : Type 0 where
   good : Part → Tok
-  bad : ℕ → ℕ → Tok
+  bad : Fault → Tok
 
 -- the bytes of a command; `E`, `F` and `R` are a caret and a letter
 abbrev pub size_of : Part → ℕ
@@ -81,9 +80,9 @@ act_of b p c =
       widths = widths_of (take c.len (drop c.text b));
     }
 
-abbrev pub tok_of : List ℕ → ℕ → Reading → Tok
-tok_of b p (Good c) = good (part_of (role_of c.kind) (act_of b p c))
-tok_of b p (Refused n q) = bad n q
+abbrev pub tok_of : List ℕ → ℕ → Result Command Fault → Tok
+tok_of b p (Ok c) = good (part_of (role_of c.kind) (act_of b p c))
+tok_of b p (Err w) = bad w
 
 -- what stands at place p of the body b
 abbrev pub get : List ℕ → ℕ → Tok
@@ -92,7 +91,7 @@ get b p = tok_of b p (read_of b p)
 -- the commands from a place on, each behind the one before; a bad one is the last
 abbrev pub chain : Tok → (ℕ → List Tok) → List Tok
 chain (good c) rest = good c ∷ rest (size_of c)
-chain (bad n q) rest = bad n q ∷ []
+chain (bad w) rest = bad w ∷ []
 
 abbrev pub tokens : (ℕ → Tok) → (len fuel place : ℕ) → List Tok
 tokens g len zero p = []

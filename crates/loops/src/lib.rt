@@ -37,16 +37,9 @@ pub enum Flow {
     Ended,
 }
 
-// What the rule of loops says of a command: it may not stand there, or how judging goes on.
+// One command judged: the place behind it, and how judging goes on there.
 #[derive(Clone, Copy)]
-pub enum Rule {
-    Broken,
-    Kept(Flow),
-}
-
-// One command judged: the refusal and its place, or the place behind it and how judging goes on.
-#[derive(Clone, Copy)]
-pub enum Turn {
-    Stop(u8, usize),
-    Next(usize, Flow),
+pub struct Turn {
+    pub next: usize,
+    pub flow: Flow,
 }

@@ -16,7 +16,10 @@ use Rattle.loops.specs.Structure.{opened}
 use Rattle.judge.specs.Verdict.{judge, commands_of, judge_of}
 use Rattle.grammar.specs.Grammar.{Tiled, done, more, acts, Program, ends, over, ever, one, loop, Described, accepted_as}
 use Rattle.loops.specs.declared.Open.{Open}
-use Rattle.judge.specs.declared.Verdict.TheVariants.{Finite, Endless, Refused}
+use Rattle.judge.specs.declared.Ending.TheVariants.{Finite, Endless}
+use Rattle.refusal.specs.declared.Fault.{Fault}
+use Rattle.refusal.specs.Refusal.{fault}
+use Rattle.std.proofs.Common.{Ok, Err}
 use Rattle.loops.proofs.Tokens.{get_two, get_within, get_caret, tokens_first, tokens_none}
 
 -- commands as tokens
@@ -30,7 +33,7 @@ program_accepted ends p = refl
 program_accepted over p = refl
 program_accepted (ever {n = n} {z = z} ys) p = closing ys (p + z)
   where
-    closing : (ys : List Act) (q : ℕ) → judge (goods (acts ys (forever ∷ []))) 0 q false (opened p (rep n z) ∷ []) ≡ Endless
+    closing : (ys : List Act) (q : ℕ) → judge (goods (acts ys (forever ∷ []))) 0 q false (opened p (rep n z) ∷ []) ≡ Ok Endless
     closing [] q = refl
     closing (a ∷ ys) q = closing ys (q + a.size)
 program_accepted (one {a = a} s) p = program_accepted s (p + a.size)
@@ -59,14 +62,14 @@ first_caret {b} h (more {c = c} e t) = get_caret b 0 c e
 pub described_accepted : (b : List ℕ) (e : Bool) → Described b e → judge_of b ≡ accepted_as e
 unfolding judge_of
 described_accepted b e d =
-    ap (λ (t : Bool). when t (Refused 28 84) (when (eqb (get_or b 0 0) caret) (commands_of b) (Refused 21 0))) (le-ltb 84 (length b) d.most)
-    ∙ ap (λ (t : Bool). when t (commands_of b) (Refused 21 0)) (eq-eqb (get_or b 0 0) caret (first_caret d.some d.tiled))
+    ap (λ (t : Bool). when t (Err (fault 28 84)) (when (eqb (get_or b 0 0) caret) (commands_of b) (Err (fault 21 0)))) (le-ltb 84 (length b) d.most)
+    ∙ ap (λ (t : Bool). when t (commands_of b) (Err (fault 21 0))) (eq-eqb (get_or b 0 0) caret (first_caret d.some d.tiled))
     ∙ ap (λ (ts : List Tok). judge ts 1 0 false []) (tiled_tokens d.tiled)
     ∙ program_accepted d.program 0
 
-refused_not : (n q : ℕ) (e : Bool) → Refused n q ≡ accepted_as e → ⊥
-refused_not n q true h = let z : ◌≡◌ {A = ℕ} 0 1 = cc in omega arith
-refused_not n q false h = let z : ◌≡◌ {A = ℕ} 0 1 = cc in omega arith
+refused_not : (w : Fault) (e : Bool) → Err w ≡ accepted_as e → ⊥
+refused_not w true h = let z : ◌≡◌ {A = ℕ} 0 1 = cc in omega arith
+refused_not w false h = let z : ◌≡◌ {A = ℕ} 0 1 = cc in omega arith
 
 -- what closes an open loop: an `E` and the rest of the program, or an `F` as the last
 data Closed (ts : List Tok) (e : Bool) : Type 0 where
@@ -85,9 +88,9 @@ record Both (ts : List Tok) : Type 0 where
 at_end : (ts : List Tok) (p : ℕ) (e : Bool) → judge ts 1 p true [] ≡ accepted_as e → (ts ≡ []) × (e ≡ true)
 at_end [] p true h = (refl, refl)
 at_end [] p false h = let z : ◌≡◌ {A = ℕ} 0 1 = cc in absurd (omega arith)
-at_end (t ∷ ts) p e h = absurd (refused_not 27 p e h)
+at_end (t ∷ ts) p e h = absurd (refused_not (fault 27 p) e h)
 
-finished : (e : Bool) → Finite ≡ accepted_as e → Program [] e
+finished : (e : Bool) → Ok Finite ≡ accepted_as e → Program [] e
 finished true h = let z : ◌≡◌ {A = ℕ} 0 1 = cc in absurd (omega arith)
 finished false h = ends
 
@@ -109,12 +112,12 @@ both : (ts : List Tok) → Both ts
 both [] =
     record {
       outside = λ p e h. record { commands = []; same = refl; program = finished e h };
-      inside = λ p e l h. absurd (refused_not 26 l.caret e h);
+      inside = λ p e l h. absurd (refused_not (fault 26 l.caret) e h);
     }
-both (bad n q ∷ ts) =
+both (bad w ∷ ts) =
     record {
-      outside = λ p e h. absurd (refused_not n q e h);
-      inside = λ p e l h. absurd (refused_not n q e h);
+      outside = λ p e h. absurd (refused_not w e h);
+      inside = λ p e l h. absurd (refused_not w e h);
     }
 both (good (act a) ∷ ts) =
     record {
@@ -125,17 +128,17 @@ both (good (act a) ∷ ts) =
 both (good (rep n z) ∷ ts) =
     record {
       outside = λ p e h. looped n z ts e ((both ts).inside (p + z) e (opened p (rep n z)) h);
-      inside = λ p e l h. absurd (refused_not 26 p e h);
+      inside = λ p e l h. absurd (refused_not (fault 26 p) e h);
     }
 both (good close ∷ ts) =
     record {
-      outside = λ p e h. absurd (refused_not 26 p e h);
+      outside = λ p e h. absurd (refused_not (fault 26 p) e h);
       inside = λ p e l h. let r = (both ts).outside (p + 2) e h in
           by_close [] r.commands (ap (λ (x : List Tok). good close ∷ x) r.same) r.program;
     }
 both (good forever ∷ ts) =
     record {
-      outside = λ p e h. absurd (refused_not 26 p e h);
+      outside = λ p e h. absurd (refused_not (fault 26 p) e h);
       inside = λ p e l h. let r = at_end ts (p + 2) e h in
           by_forever [] (ap (λ (x : List Tok). good forever ∷ x) r.0) r.1;
     }
@@ -143,7 +146,7 @@ both (good again ∷ ts) =
     record {
       outside = λ p e h. let r = at_end ts (p + 2) e h in
           record { commands = again ∷ []; same = ap (λ (x : List Tok). good again ∷ x) r.0; program = subst (Program (again ∷ [])) (sym r.1) over };
-      inside = λ p e l h. absurd (refused_not 26 p e h);
+      inside = λ p e l h. absurd (refused_not (fault 26 p) e h);
     }
 
 -- the body's tokens, if they are commands, tile it
@@ -152,11 +155,11 @@ chain_good b p c ts (good k) e =
     let s : k ≡ c = cc in
     let r : tokens_of b (p + size_of k) ≡ ts = cc in
     (ap good s, ap (λ (x : Part). tokens_of b (p + size_of x)) (sym s) ∙ r)
-chain_good b p c ts (bad n q) e = let z : ◌≡◌ {A = ℕ} 0 1 = cc in absurd (omega arith)
+chain_good b p c ts (bad w) e = let z : ◌≡◌ {A = ℕ} 0 1 = cc in absurd (omega arith)
 
 chain_some : (t : Tok) (r : ℕ → List Tok) → chain t r ≡ [] → ⊥
 chain_some (good c) r e = let z : ◌≡◌ {A = ℕ} 0 1 = cc in omega arith
-chain_some (bad n q) r e = let z : ◌≡◌ {A = ℕ} 0 1 = cc in omega arith
+chain_some (bad w) r e = let z : ◌≡◌ {A = ℕ} 0 1 = cc in omega arith
 
 pub tokens_tiled : (b : List ℕ) (cs : List Part) (p : ℕ) → p ≤ length b → tokens_of b p ≡ goods cs → Tiled b p cs
 tokens_tiled b [] p h e =
@@ -186,7 +189,7 @@ pub accepted_described : (b : List ℕ) (e : Bool) → judge_of b ≡ accepted_a
 unfolding judge_of
 accepted_described b e h = short (ltb 84 (length b)) refl h
   where
-    front : (t : Bool) → eqb (get_or b 0 0) caret ≡ t → length b ≤ 84 → when t (commands_of b) (Refused 21 0) ≡ accepted_as e → Described b e
+    front : (t : Bool) → eqb (get_or b 0 0) caret ≡ t → length b ≤ 84 → when t (commands_of b) (Err (fault 21 0)) ≡ accepted_as e → Described b e
     front true f m k =
         let r = (both (tokens_of b 0)).outside 0 e k in
         record {
@@ -196,8 +199,8 @@ accepted_described b e h = short (ltb 84 (length b)) refl h
           tiled = tokens_tiled b r.commands 0 (omega arith) r.same;
           program = r.program;
         }
-    front false f m k = absurd (refused_not 21 0 e k)
+    front false f m k = absurd (refused_not (fault 21 0) e k)
 
-    short : (t : Bool) → ltb 84 (length b) ≡ t → when t (Refused 28 84) (when (eqb (get_or b 0 0) caret) (commands_of b) (Refused 21 0)) ≡ accepted_as e → Described b e
-    short true f k = absurd (refused_not 28 84 e k)
+    short : (t : Bool) → ltb 84 (length b) ≡ t → when t (Err (fault 28 84)) (when (eqb (get_or b 0 0) caret) (commands_of b) (Err (fault 21 0))) ≡ accepted_as e → Described b e
+    short true f k = absurd (refused_not (fault 28 84) e k)
     short false f k = front (eqb (get_or b 0 0) caret) refl (ltb-false 84 (length b) f) k

@@ -13,13 +13,13 @@ use lib.ListN.{length}
 use Rattle.basis.specs.Choice.{when}
 use Rattle.loops.specs.Token.{Part, Tok, good, bad, size_of, get, chain, tokens_of}
 use Rattle.loops.specs.Structure.{Structure, broken, kept, structure_of, role_in, opened, moved, move_of}
-use Rattle.judge.specs.Verdict.{judge_of}
+use Rattle.judge.specs.Verdict.{Verdict, judge_of}
 use Rattle.judge.specs.Standing.{inside_of, stood, stand_at, of_accepted, stand_of}
 use Rattle.grammar.specs.Grammar.{accepted_as}
 use Rattle.grammar.specs.Reach.{Reach, start, past}
 use Rattle.loops.specs.declared.Open.{Open}
-use Rattle.judge.specs.declared.Verdict.{Verdict}
-use Rattle.judge.specs.declared.Verdict.TheVariants.{Finite, Endless, Refused}
+use Rattle.judge.specs.declared.Ending.TheVariants.{Finite, Endless}
+use Rattle.std.proofs.Common.{Ok, Err}
 use Rattle.judge.specs.declared.Standing.{Standing}
 use Rattle.judge.specs.declared.Standing.TheVariants.{Nowhere}
 use Rattle.loops.proofs.Tokens.{get_two, get_within, tokens_first, tokens_none}
@@ -54,7 +54,7 @@ reach_stand b q (past {p = p} {m = m} {o = o} {c = c} r g x) h =
 
 here : (b : List ℕ) (q m : ℕ) (e : Bool) (o : List Open) (t : Tok) → stand_at q (chain t (λ z. tokens_of b (q + z))) m q e o ≡ inside_of o
 here b q m e o (good c) = ap (λ (k : Bool). when k (inside_of o) (passed q (good c) (tokens_of b (q + size_of c)) m q e o)) (eq-eqb q q refl)
-here b q m e o (bad n r) = ap (λ (k : Bool). when k (inside_of o) (passed q (bad n r) [] m q e o)) (eq-eqb q q refl)
+here b q m e o (bad w) = ap (λ (k : Bool). when k (inside_of o) (passed q (bad w) [] m q e o)) (eq-eqb q q refl)
 
 of_accepted_lem : (v : Verdict) (e : Bool) (s : Standing) → v ≡ accepted_as e → of_accepted v s ≡ s
 of_accepted_lem v true s h = ap (λ (k : Verdict). of_accepted k s) h
@@ -87,7 +87,7 @@ module _ (b : List ℕ) (q : ℕ) (s : Standing) (some : s ≡ Nowhere → ⊥) 
   at_command : (p m : ℕ) (e : Bool) (o : List Open) (t : Tok) → get b p ≡ t → Reach (get b) 1 p m e o → p < length b → ((c : Part) (m' : ℕ) (e' : Bool) (o' : List Open) → get b p ≡ good c → Reach (get b) 1 (p + size_of c) m' e' o' → stand_at q (tokens_of b (p + size_of c)) m' (p + size_of c) e' o' ≡ s → Found b q s) → (k : Bool) → eqb p q ≡ k → (x : List Tok) → chain t (λ z. tokens_of b (p + z)) ≡ t ∷ x → when k (inside_of o) (passed q t x m p e o) ≡ s → Found b q s
   at_command p m e o t g r l rest true f x y k = at_place p m e o r l (eqb-true p q f) k
   at_command p m true o t g r l rest false f x y k = absurd (some (sym k))
-  at_command p m false o (bad i j) g r l rest false f x y k = absurd (some (sym k))
+  at_command p m false o (bad w) g r l rest false f x y k = absurd (some (sym k))
   at_command p m false o (good c) g r l rest false f x y k = by (structure_of (role_in c) m (opened p c) o) refl k
     where
       by : (z : Structure) → structure_of (role_in c) m (opened p c) o ≡ z → stood (moved p (p + size_of c) z) (λ next m' e' o'. stand_at q x m' next e' o') ≡ s → Found b q s
@@ -104,7 +104,7 @@ module _ (b : List ℕ) (q : ℕ) (s : Standing) (some : s ≡ Nowhere → ⊥) 
     where
       cons : (t : Tok) → get b p ≡ t → p < length b → ((c : Part) (m' : ℕ) (e' : Bool) (o' : List Open) → get b p ≡ good c → Reach (get b) 1 (p + size_of c) m' e' o' → stand_at q (tokens_of b (p + size_of c)) m' (p + size_of c) e' o' ≡ s → Found b q s) → stand_at q (chain t (λ z. tokens_of b (p + z))) m p e o ≡ s → Found b q s
       cons (good c) g l rest k' = at_command p m e o (good c) g r l rest (eqb p q) refl (tokens_of b (p + size_of c)) refl k'
-      cons (bad i j) g l rest k' = at_command p m e o (bad i j) g r l rest (eqb p q) refl [] refl k'
+      cons (bad w) g l rest k' = at_command p m e o (bad w) g r l rest (eqb p q) refl [] refl k'
 
       go' : ((c : Part) (m' : ℕ) (e' : Bool) (o' : List Open) → length b ≤ p + size_of c + fuel → Reach (get b) 1 (p + size_of c) m' e' o' → stand_at q (tokens_of b (p + size_of c)) m' (p + size_of c) e' o' ≡ s → Found b q s) → Found b q s
       go' rest =
@@ -137,6 +137,6 @@ stands_at b q s h some = by (judge_of b) refl h
         }
 
     by : (v : Verdict) → judge_of b ≡ v → of_accepted v (stand_at q (tokens_of b 0) 1 0 false []) ≡ s → At b q s
-    by Finite v k = from false v k
-    by Endless v k = from true v k
-    by (Refused n p) v k = absurd (some (sym k))
+    by (Ok Finite) v k = from false v k
+    by (Ok Endless) v k = from true v k
+    by (Err w) v k = absurd (some (sym k))

@@ -1,9 +1,9 @@
 -- The programs, as a grammar: what a body must be to be accepted, with no word of how it is judged.
 -- Rules L1 and L2 for the body and its commands, L25 to L27 for loops and endings, L28 for endless, L29 for accepted.
-use Rattle.std.specs.Prelude.{ℕ, ◌+◌, ◌≤◌, ◌≡◌, List, [], ◌∷◌, Bool, true, false, length}
+use Rattle.std.specs.Prelude.{ℕ, ◌+◌, ◌≤◌, ◌≡◌, List, [], ◌∷◌, Bool, true, false, length, Ok}
 use Rattle.loops.specs.Token.{Act, Part, act, rep, close, forever, again, good, size_of, get}
-use Rattle.judge.specs.declared.Verdict.{Verdict}
-use Rattle.judge.specs.declared.Verdict.TheVariants.{Finite, Endless}
+use Rattle.judge.specs.Verdict.{Verdict}
+use Rattle.judge.specs.declared.Ending.TheVariants.{Finite, Endless}
 
 -- from a place to the end the body is these commands, each directly behind the one before
 pub data Tiled (b : List ℕ) : ℕ → List Part → Type 0 where
@@ -33,5 +33,5 @@ pub record Described (b : List ℕ) (e : Bool) : Type 0 where
   pub program : Program commands e
 
 abbrev pub accepted_as : Bool → Verdict
-accepted_as true = Endless
-accepted_as false = Finite
+accepted_as true = Ok Endless
+accepted_as false = Ok Finite

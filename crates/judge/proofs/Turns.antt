@@ -10,24 +10,23 @@ use lib.ListN.{length, get_or}
 use Rattle.basis.specs.Choice.{when}
 use Rattle.params.specs.Bytes.{caret}
 use Rattle.program.specs.declared.Command.{Command}
-use Rattle.program.specs.declared.Reading.{Reading}
-use Rattle.program.specs.declared.Reading.TheVariants.{Good, Refused as Wrong}
 use Rattle.loops.specs.Token.{Part, act, rep, close, forever, again, Tok, good, bad, size_of, get, chain, tokens_of}
 use Rattle.loops.specs.Structure.{Structure, broken, kept, structure_of, role_in, opened, moved, move_of}
-use Rattle.loops.specs.Flow.{room_of, ended_of, opens_of, turn_of}
-use Rattle.judge.specs.Verdict.{end_of, judge, commands_of, front_of, judge_of}
+use Rattle.loops.specs.Flow.{room_of, ended_of, opens_of, turn_of, go_on}
+use Rattle.judge.specs.Verdict.{Verdict, end_of, judge, commands_of, begun, front_of, judge_of}
 use Rattle.judge.specs.Standing.{inside_of, stood, stand_at, or_else, of_accepted, placed_of}
-use Rattle.judge.specs.declared.Opening.TheVariants.{Begun, Refused as TooSoon}
 use Rattle.loops.specs.declared.Open.{Open}
-use Rattle.judge.specs.declared.Found.TheVariants.{Nowhere as Missing, At}
 use Rattle.judge.specs.declared.Standing.{Standing}
 use Rattle.judge.specs.declared.Standing.TheVariants.{Nowhere, Outside, Inside}
 use Rattle.loops.specs.declared.Flow.{Flow}
 use Rattle.loops.specs.declared.Flow.TheVariants.{Free, Within, Ended}
 use Rattle.loops.specs.declared.Turn.{Turn}
-use Rattle.loops.specs.declared.Turn.TheVariants.{Stop, Next}
-use Rattle.judge.specs.declared.Verdict.{Verdict}
-use Rattle.judge.specs.declared.Verdict.TheVariants.{Finite, Endless, Refused}
+use Rattle.judge.specs.declared.Found.{Found}
+use Rattle.refusal.specs.declared.Fault.{Fault}
+use Rattle.refusal.specs.Refusal.{fault}
+use Rattle.std.specs.Result.{result_ok}
+use Rattle.std.proofs.Common.{Result, Ok, Err, Some, None}
+use Rattle.refusal.proofs.Names.{ok_one, err_one}
 use Rattle.loops.proofs.Tokens.{get_two, tokens_first, tokens_none}
 
 -- the verdict on commands where judging stands so
@@ -35,13 +34,13 @@ abbrev pub from : List Tok → ℕ → Flow → Verdict
 from ts p f = judge ts (room_of f) p (ended_of f) (opens_of f)
 
 -- a command where judging stands so
-abbrev pub turn_at : Tok → ℕ → Flow → Turn
+abbrev pub turn_at : Tok → ℕ → Flow → Result Turn Fault
 turn_at t p f = turn_of (move_of t (room_of f) p (ended_of f) (opens_of f))
 
 -- how judging goes on behind a command
-abbrev resume : Turn → List Tok → Verdict
-resume (Stop n q) ts = Refused n q
-resume (Next next f) ts = from ts next f
+abbrev resume : Result Turn Fault → List Tok → Verdict
+resume (Err w) ts = Err w
+resume (Ok t) ts = from ts t.next t.flow
 
 resume_good : (c : Part) (ts : List Tok) (p : ℕ) (f : Flow) → from (good c ∷ ts) p f ≡ resume (turn_at (good c) p f) ts
 resume_good c ts p Ended = refl
@@ -56,24 +55,24 @@ resume_good close ts p (Within l) = refl
 resume_good forever ts p (Within l) = refl
 resume_good again ts p (Within l) = refl
 
-resume_bad : (n q : ℕ) (p : ℕ) (f : Flow) → from (bad n q ∷ []) p f ≡ resume (turn_at (bad n q) p f) []
-resume_bad n q p Ended = refl
-resume_bad n q p Free = refl
-resume_bad n q p (Within l) = refl
+resume_bad : (w : Fault) (p : ℕ) (f : Flow) → from (bad w ∷ []) p f ≡ resume (turn_at (bad w) p f) []
+resume_bad w p Ended = refl
+resume_bad w p Free = refl
+resume_bad w p (Within l) = refl
 
 -- only a good command is passed, and judging goes on behind it
-moved_next : (p next k : ℕ) (f : Flow) (s : Structure) → turn_of (moved p next s) ≡ Next k f → k ≡ next
+moved_next : (p next k : ℕ) (f : Flow) (s : Structure) → turn_of (moved p next s) ≡ Ok (go_on k f) → k ≡ next
 moved_next p next k f broken e = let z : ◌≡◌ {A = ℕ} 0 1 = cc in absurd (omega arith)
-moved_next p next k f (kept m e' o) e = let z : next ≡ k = cc in sym z
+moved_next p next k f (kept m e' o) e = sym (ap (λ (t : Turn). t.next) (ok_one e))
 
-pub next_place : (t : Tok) (p k : ℕ) (f g : Flow) → turn_at t p f ≡ Next k g → (c : Part) × (t ≡ good c) × (k ≡ p + size_of c)
+pub next_place : (t : Tok) (p k : ℕ) (f g : Flow) → turn_at t p f ≡ Ok (go_on k g) → (c : Part) × (t ≡ good c) × (k ≡ p + size_of c)
 next_place t p k Ended g e = let z : ◌≡◌ {A = ℕ} 0 1 = cc in absurd (omega arith)
-next_place (bad n q) p k Free g e = let z : ◌≡◌ {A = ℕ} 0 1 = cc in absurd (omega arith)
-next_place (bad n q) p k (Within l) g e = let z : ◌≡◌ {A = ℕ} 0 1 = cc in absurd (omega arith)
+next_place (bad w) p k Free g e = let z : ◌≡◌ {A = ℕ} 0 1 = cc in absurd (omega arith)
+next_place (bad w) p k (Within l) g e = let z : ◌≡◌ {A = ℕ} 0 1 = cc in absurd (omega arith)
 next_place (good c) p k Free g e = (c, refl, moved_next p (p + size_of c) k g (structure_of (role_in c) 1 (opened p c) []) e)
 next_place (good c) p k (Within l) g e = (c, refl, moved_next p (p + size_of c) k g (structure_of (role_in c) 0 (opened p c) (l ∷ [])) e)
 
-pub place_grows : (b : List ℕ) (p k : ℕ) (f g : Flow) → turn_at (get b p) p f ≡ Next k g → p < k
+pub place_grows : (b : List ℕ) (p k : ℕ) (f g : Flow) → turn_at (get b p) p f ≡ Ok (go_on k g) → p < k
 place_grows b p k f g e =
     let n = next_place (get b p) p k f g e in
     let t = get_two b p n.0 n.1 in
@@ -81,27 +80,27 @@ place_grows b p k f g e =
     omega arith
 
 -- the verdict from a place on, by the move there
-pub on_stop : (b : List ℕ) (p n q : ℕ) (f : Flow) → p < length b → turn_at (get b p) p f ≡ Stop n q → from (tokens_of b p) p f ≡ Refused n q
-on_stop b p n q f h e = ap (λ (ts : List Tok). from ts p f) (tokens_first b p h) ∙ by (get b p) e
+pub on_stop : (b : List ℕ) (p : ℕ) (w : Fault) (f : Flow) → p < length b → turn_at (get b p) p f ≡ Err w → from (tokens_of b p) p f ≡ Err w
+on_stop b p w f h e = ap (λ (ts : List Tok). from ts p f) (tokens_first b p h) ∙ by (get b p) e
   where
-    by : (t : Tok) → turn_at t p f ≡ Stop n q → from (chain t (λ z. tokens_of b (p + z))) p f ≡ Refused n q
-    by (good c) e' = resume_good c (tokens_of b (p + size_of c)) p f ∙ ap (λ (x : Turn). resume x (tokens_of b (p + size_of c))) e'
-    by (bad k r) e' = resume_bad k r p f ∙ ap (λ (x : Turn). resume x []) e'
+    by : (t : Tok) → turn_at t p f ≡ Err w → from (chain t (λ z. tokens_of b (p + z))) p f ≡ Err w
+    by (good c) e' = resume_good c (tokens_of b (p + size_of c)) p f ∙ ap (λ (x : Result Turn Fault). resume x (tokens_of b (p + size_of c))) e'
+    by (bad x) e' = resume_bad x p f ∙ ap (λ (x : Result Turn Fault). resume x []) e'
 
-pub on_next : (b : List ℕ) (p k : ℕ) (f g : Flow) → p < length b → turn_at (get b p) p f ≡ Next k g → from (tokens_of b p) p f ≡ from (tokens_of b k) k g
+pub on_next : (b : List ℕ) (p k : ℕ) (f g : Flow) → p < length b → turn_at (get b p) p f ≡ Ok (go_on k g) → from (tokens_of b p) p f ≡ from (tokens_of b k) k g
 on_next b p k f g h e = ap (λ (ts : List Tok). from ts p f) (tokens_first b p h) ∙ by (get b p) e
   where
-    by : (t : Tok) → turn_at t p f ≡ Next k g → from (chain t (λ z. tokens_of b (p + z))) p f ≡ from (tokens_of b k) k g
+    by : (t : Tok) → turn_at t p f ≡ Ok (go_on k g) → from (chain t (λ z. tokens_of b (p + z))) p f ≡ from (tokens_of b k) k g
     by (good c) e' =
         let n = next_place (good c) p k f g e' in
         let s : n.0 ≡ c = cc in
         let z : p + size_of c ≡ k = ap (λ (x : Part). p + size_of x) (sym s) ∙ sym n.2 in
         resume_good c (tokens_of b (p + size_of c)) p f
-        ∙ ap (λ (x : Turn). resume x (tokens_of b (p + size_of c))) e'
+        ∙ ap (λ (x : Result Turn Fault). resume x (tokens_of b (p + size_of c))) e'
         ∙ ap (λ (x : ℕ). from (tokens_of b x) k g) z
-    by (bad j r) e' =
-        let n = next_place (bad j r) p k f g e' in
-        let s : bad j r ≡ good n.0 = n.1 in
+    by (bad w) e' =
+        let n = next_place (bad w) p k f g e' in
+        let s : bad w ≡ good n.0 = n.1 in
         let z : ◌≡◌ {A = ℕ} 0 1 = cc in
         absurd (omega arith)
 
@@ -115,9 +114,9 @@ stand_from q ts p f = stand_at q ts (room_of f) p (ended_of f) (opens_of f)
 abbrev beyond : ℕ → Tok → List Tok → ℕ → Flow → Standing
 beyond q t ts p f = stood (move_of t (room_of f) p (ended_of f) (opens_of f)) (λ next m e o. stand_at q ts m next e o)
 
-abbrev look : ℕ → Turn → List Tok → Standing
-look q (Stop n r) ts = Nowhere
-look q (Next next f) ts = stand_from q ts next f
+abbrev look : ℕ → Result Turn Fault → List Tok → Standing
+look q (Err w) ts = Nowhere
+look q (Ok t) ts = stand_from q ts t.next t.flow
 
 look_good : (q : ℕ) (c : Part) (ts : List Tok) (p : ℕ) (f : Flow) → beyond q (good c) ts p f ≡ look q (turn_at (good c) p f) ts
 look_good q c ts p Ended = refl
@@ -132,10 +131,10 @@ look_good q close ts p (Within l) = refl
 look_good q forever ts p (Within l) = refl
 look_good q again ts p (Within l) = refl
 
-look_bad : (q k r : ℕ) (p : ℕ) (f : Flow) → beyond q (bad k r) [] p f ≡ look q (turn_at (bad k r) p f) []
-look_bad q k r p Ended = refl
-look_bad q k r p Free = refl
-look_bad q k r p (Within l) = refl
+look_bad : (q : ℕ) (w : Fault) (p : ℕ) (f : Flow) → beyond q (bad w) [] p f ≡ look q (turn_at (bad w) p f) []
+look_bad q w p Ended = refl
+look_bad q w p Free = refl
+look_bad q w p (Within l) = refl
 
 -- the place is here
 pub stand_here : (b : List ℕ) (q p : ℕ) (f : Flow) → p < length b → p ≡ q → stand_from q (tokens_of b p) p f ≡ inside_of (opens_of f)
@@ -143,24 +142,24 @@ stand_here b q p f h e = ap (λ (ts : List Tok). stand_from q ts p f) (tokens_fi
   where
     by : (t : Tok) → stand_from q (chain t (λ z. tokens_of b (p + z))) p f ≡ inside_of (opens_of f)
     by (good c) = ap (λ (u : Bool). when u (inside_of (opens_of f)) (beyond q (good c) (tokens_of b (p + size_of c)) p f)) (eq-eqb p q e)
-    by (bad k r) = ap (λ (u : Bool). when u (inside_of (opens_of f)) (beyond q (bad k r) [] p f)) (eq-eqb p q e)
+    by (bad w) = ap (λ (u : Bool). when u (inside_of (opens_of f)) (beyond q (bad w) [] p f)) (eq-eqb p q e)
 
 -- it is not, and is looked for behind the command here
-pub stand_next : (b : List ℕ) (q p k : ℕ) (f g : Flow) → p < length b → (p ≡ q → ⊥) → turn_at (get b p) p f ≡ Next k g → stand_from q (tokens_of b p) p f ≡ stand_from q (tokens_of b k) k g
+pub stand_next : (b : List ℕ) (q p k : ℕ) (f g : Flow) → p < length b → (p ≡ q → ⊥) → turn_at (get b p) p f ≡ Ok (go_on k g) → stand_from q (tokens_of b p) p f ≡ stand_from q (tokens_of b k) k g
 stand_next b q p k f g h d e = ap (λ (ts : List Tok). stand_from q ts p f) (tokens_first b p h) ∙ by (get b p) e
   where
-    by : (t : Tok) → turn_at t p f ≡ Next k g → stand_from q (chain t (λ z. tokens_of b (p + z))) p f ≡ stand_from q (tokens_of b k) k g
+    by : (t : Tok) → turn_at t p f ≡ Ok (go_on k g) → stand_from q (chain t (λ z. tokens_of b (p + z))) p f ≡ stand_from q (tokens_of b k) k g
     by (good c) e' =
         let n = next_place (good c) p k f g e' in
         let s : n.0 ≡ c = cc in
         let z : p + size_of c ≡ k = ap (λ (x : Part). p + size_of x) (sym s) ∙ sym n.2 in
         ap (λ (u : Bool). when u (inside_of (opens_of f)) (beyond q (good c) (tokens_of b (p + size_of c)) p f)) (ne_eqb p q d)
         ∙ look_good q c (tokens_of b (p + size_of c)) p f
-        ∙ ap (λ (x : Turn). look q x (tokens_of b (p + size_of c))) e'
+        ∙ ap (λ (x : Result Turn Fault). look q x (tokens_of b (p + size_of c))) e'
         ∙ ap (λ (x : ℕ). stand_from q (tokens_of b x) k g) z
-    by (bad j r) e' =
-        let n = next_place (bad j r) p k f g e' in
-        let s : bad j r ≡ good n.0 = n.1 in
+    by (bad w) e' =
+        let n = next_place (bad w) p k f g e' in
+        let s : bad w ≡ good n.0 = n.1 in
         let z : ◌≡◌ {A = ℕ} 0 1 = cc in
         absurd (omega arith)
 
@@ -188,7 +187,7 @@ found_here b q p k f g s s' all h inv w n =
     ∙ ap (or_else s) (sym (stand_here b q p f h w))
     ∙ inv
 
-pub found_past : (b : List ℕ) (q p k : ℕ) (f g : Flow) (s s' all : Standing) → p < length b → turn_at (get b p) p f ≡ Next k g
+pub found_past : (b : List ℕ) (q p k : ℕ) (f g : Flow) (s s' all : Standing) → p < length b → turn_at (get b p) p f ≡ Ok (go_on k g)
     → or_else s (stand_from q (tokens_of b p) p f) ≡ all → (p ≡ q → ⊥) → s' ≡ s → or_else s' (stand_from q (tokens_of b k) k g) ≡ all
 found_past b q p k f g s s' all h e inv w n =
     ap (λ (x : Standing). or_else x (stand_from q (tokens_of b k) k g)) n ∙ ap (or_else s) (sym (stand_next b q p k f g h w e)) ∙ inv
@@ -198,45 +197,42 @@ pub found_all : (b : List ℕ) (q p : ℕ) (f : Flow) (s all : Standing) → len
 found_all b q p f s all h inv = sym (or_nowhere s) ∙ ap (or_else s) (sym (stand_none b q p f h)) ∙ inv
 
 -- a body is refused by its front, or goes by its commands
-pub front_judged : (b : List ℕ) (n q : ℕ) → front_of b ≡ TooSoon n q → judge_of b ≡ Refused n q
+pub front_judged : (b : List ℕ) (w : Fault) → front_of b ≡ Err w → judge_of b ≡ Err w
 unfolding judge_of
-front_judged b n q e = go (ltb 84 (length b)) (eqb (get_or b 0 0) caret) e
+front_judged b w e = go (ltb 84 (length b)) (eqb (get_or b 0 0) caret) e
   where
-    go : (t u : Bool) → when t (TooSoon 28 84) (when u Begun (TooSoon 21 0)) ≡ TooSoon n q
-        → when t (Refused 28 84) (when u (commands_of b) (Refused 21 0)) ≡ Refused n q
-    go true u w = cc
-    go false true w = let z : ◌≡◌ {A = ℕ} 0 1 = cc in absurd (omega arith)
-    go false false w = cc
+    go : (t u : Bool) → when t (Err (fault 28 84)) (when u begun (Err (fault 21 0))) ≡ Err w
+        → when t (Err (fault 28 84)) (when u (commands_of b) (Err (fault 21 0))) ≡ Err w
+    go true u h = ap Err (err_one h)
+    go false true h = let z : ◌≡◌ {A = ℕ} 0 1 = cc in absurd (omega arith)
+    go false false h = ap Err (err_one h)
 
-pub begun_front : (b : List ℕ) → front_of b ≡ Begun → (judge_of b ≡ commands_of b) × (length b ≤ 84)
+pub begun_front : (b : List ℕ) → front_of b ≡ begun → (judge_of b ≡ commands_of b) × (length b ≤ 84)
 unfolding judge_of
 begun_front b e = go (ltb 84 (length b)) (eqb (get_or b 0 0) caret) refl e
   where
-    go : (t u : Bool) → ltb 84 (length b) ≡ t → when t (TooSoon 28 84) (when u Begun (TooSoon 21 0)) ≡ Begun
-        → (when t (Refused 28 84) (when u (commands_of b) (Refused 21 0)) ≡ commands_of b) × (length b ≤ 84)
+    go : (t u : Bool) → ltb 84 (length b) ≡ t → when t (Err (fault 28 84)) (when u begun (Err (fault 21 0))) ≡ begun
+        → (when t (Err (fault 28 84)) (when u (commands_of b) (Err (fault 21 0))) ≡ commands_of b) × (length b ≤ 84)
     go true u m w = let z : ◌≡◌ {A = ℕ} 0 1 = cc in absurd (omega arith)
     go false true m w = (refl, ltb-false 84 (length b) m)
     go false false m w = let z : ◌≡◌ {A = ℕ} 0 1 = cc in absurd (omega arith)
 
+-- a front that is refused, and one that is not, by what is kept of its answer
+pub front_none : (r : Result Unit Fault) → result_ok r ≡ None → (w : Fault) × (r ≡ Err w)
+front_none (Ok x) h = let z : ◌≡◌ {A = ℕ} 0 1 = cc in absurd (omega arith)
+front_none (Err w) h = (w, refl)
+
+pub front_some : (r : Result Unit Fault) (x : Unit) → result_ok r ≡ Some x → r ≡ begun
+front_some (Ok y) x h = refl
+front_some (Err w) x h = let z : ◌≡◌ {A = ℕ} 0 1 = cc in absurd (omega arith)
+
 -- what stands nowhere stands nowhere by any verdict
 pub accepted_nowhere : (v : Verdict) (s : Standing) → s ≡ Nowhere → of_accepted v s ≡ Nowhere
-accepted_nowhere Finite s e = e
-accepted_nowhere Endless s e = e
-accepted_nowhere (Refused n q) s e = refl
+accepted_nowhere (Ok x) s e = e
+accepted_nowhere (Err w) s e = refl
 
 -- what is read counts only where a place stands somewhere
-pub placed_is : (s : Standing) (r x : Reading) → ((s ≡ Nowhere → ⊥) → r ≡ x) → placed_of s r ≡ placed_of s x
+pub placed_is : (s : Standing) (r x : Result Command Fault) → ((s ≡ Nowhere → ⊥) → r ≡ x) → placed_of s r ≡ placed_of s x
 placed_is Nowhere r x h = refl
 placed_is Outside r x h = ap (placed_of Outside) (h (λ e. let z : ◌≡◌ {A = ℕ} 0 1 = cc in omega arith))
 placed_is (Inside behind number) r x h = ap (placed_of (Inside behind number)) (h (λ e. let z : ◌≡◌ {A = ℕ} 0 1 = cc in omega arith))
-
--- a command that stands somewhere stands there
-pub placed_good : (s t : Standing) (r : Reading) (c : Command) → s ≡ t → r ≡ Good c → At t c ≡ placed_of t (Good c) → At s c ≡ placed_of s r
-placed_good s t r c there reads is =
-    ap (λ (x : Standing). At x c) there ∙ is ∙ ap (placed_of t) (sym reads) ∙ ap (λ (x : Standing). placed_of x r) (sym there)
-
--- what is no command stands nowhere
-pub placed_unread : (s : Standing) (n q : ℕ) → placed_of s (Wrong n q) ≡ Missing
-placed_unread Nowhere n q = refl
-placed_unread Outside n q = refl
-placed_unread (Inside behind number) n q = refl

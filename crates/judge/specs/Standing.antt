@@ -1,20 +1,17 @@
 -- Where a place stands in a body: what a sound record's place (R7) and loop place (R8) are held to.
-use Rattle.std.specs.Prelude.{ℕ, List, [], ◌∷◌, Bool, false, eqb}
+use Rattle.std.specs.Prelude.{ℕ, List, [], ◌∷◌, Bool, false, eqb, Result, Ok, Err, Option, Some, None}
 use Rattle.basis.specs.Choice.{when}
 use Rattle.program.specs.Command.{read_of}
-use Rattle.program.specs.declared.Reading.{Reading}
-use Rattle.program.specs.declared.Reading.TheVariants.{Good, Refused as Wrong}
 use Rattle.loops.specs.Token.{Tok, tokens_of}
 use Rattle.loops.specs.Structure.{Move, stop, go, move_of}
-use Rattle.judge.specs.Verdict.{judge_of}
+use Rattle.judge.specs.Verdict.{Verdict, judge_of}
 use Rattle.loops.specs.declared.Open.{Open}
-use Rattle.judge.specs.declared.Verdict.{Verdict}
-use Rattle.judge.specs.declared.Verdict.TheVariants.{Finite, Endless, Refused}
 use Rattle.judge.specs.declared.Standing.{Standing}
 use Rattle.judge.specs.declared.Standing.TheVariants.{Nowhere, Outside, Inside}
 use Rattle.judge.specs.declared.Walked.{Walked}
 use Rattle.judge.specs.declared.Found.{Found}
-use Rattle.judge.specs.declared.Found.TheVariants.{Nowhere as Missing, At}
+use Rattle.program.specs.declared.Command.{Command}
+use Rattle.refusal.specs.declared.Fault.{Fault}
 
 -- in the innermost open loop, or outside
 abbrev pub inside_of : List Open → Standing
@@ -22,7 +19,7 @@ inside_of [] = Outside
 inside_of (l ∷ o) = Inside l.behind l.number
 
 abbrev pub stood : Move → (ℕ → ℕ → Bool → List Open → Standing) → Standing
-stood (stop n q) rest = Nowhere
+stood (stop w) rest = Nowhere
 stood (go next m e o) rest = rest next m e o
 
 -- the place q among the commands from place p on
@@ -40,12 +37,11 @@ or_else (Inside behind number) s = Inside behind number
 
 -- a refused body has no place
 abbrev pub of_accepted : Verdict → Standing → Standing
-of_accepted Finite s = s
-of_accepted Endless s = s
-of_accepted (Refused n p) s = Nowhere
+of_accepted (Ok e) s = s
+of_accepted (Err w) s = Nowhere
 
 -- a verdict, and where a place that is looked for on the way stands by it, with what was read there
-abbrev pub walked_of : Verdict → Standing → Reading → Walked
+abbrev pub walked_of : Verdict → Standing → Result Command Fault → Walked
 walked_of v s r = record { verdict = v; found = of_accepted v s; read = r }
 
 -- the place q of the body b
@@ -53,16 +49,16 @@ unfoldable pub stand_of : List ℕ → ℕ → Standing
 stand_of b q = of_accepted (judge_of b) (stand_at q (tokens_of b 0) 1 0 false [])
 
 -- a standing with the command that is read there; at a command of an accepted body the reading is always good
-abbrev pub with_read : Standing → Reading → Found
-with_read s (Good c) = At s c
-with_read s (Wrong n p) = Missing
+abbrev pub with_read : Standing → Result Command Fault → Option Found
+with_read s (Ok c) = Some (record { standing = s; command = c })
+with_read s (Err w) = None
 
 -- the same, by where the place stands
-abbrev pub placed_of : Standing → Reading → Found
-placed_of Nowhere r = Missing
+abbrev pub placed_of : Standing → Result Command Fault → Option Found
+placed_of Nowhere r = None
 placed_of Outside r = with_read Outside r
 placed_of (Inside behind number) r = with_read (Inside behind number) r
 
 -- the place q of the body b with the command that stands there
-abbrev pub found_of : List ℕ → ℕ → Found
+abbrev pub found_of : List ℕ → ℕ → Option Found
 found_of b q = placed_of (stand_of b q) (read_of b q)

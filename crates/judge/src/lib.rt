@@ -14,23 +14,19 @@ mod whole;
 
 pub use begin::front;
 pub use places::{find, stand};
-use program::{Command, Reading};
+use program::Command;
+use refusal::Fault;
 pub use whole::judge;
 
-// A body's front: its commands can be judged, or it is refused before them.
+// How an accepted body goes: it comes to an end, or it never does.
 #[derive(Clone, Copy)]
-pub enum Opening {
-    Begun,
-    Refused(u8, usize),
-}
-
-// A body judged: it comes to an end, it never does, or it is refused by a number and a place.
-#[derive(Clone, Copy)]
-pub enum Verdict {
+pub enum Ending {
     Finite,
     Endless,
-    Refused(u8, usize),
 }
+
+// A body judged: how it goes, or why it is refused and where.
+pub type Verdict = Result<Ending, Fault>;
 
 // Where a place stands in a body: at no command of an accepted one, outside loops, or inside the loop with this place
 // behind its `L` and this number.
@@ -46,12 +42,12 @@ pub enum Standing {
 struct Walked {
     verdict: Verdict,
     found: Standing,
-    read: Reading,
+    read: Result<Command, Fault>,
 }
 
-// A place looked for: at no command of an accepted body, or where it stands with the command there.
+// A place found in an accepted body: where it stands, and the command there.
 #[derive(Clone, Copy)]
-pub enum Found {
-    Nowhere,
-    At(Standing, Command),
+pub struct Found {
+    pub standing: Standing,
+    pub command: Command,
 }

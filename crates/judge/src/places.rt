@@ -4,50 +4,36 @@ ghost use Rattle.judge.specs.Standing.{stand_of, placed_of, found_of};
 
 use crate::begin::front;
 use crate::walk::walk;
-use crate::{Found, Opening, Standing};
-use program::Reading;
+use crate::{Found, Standing};
+use program::Command;
+use refusal::Fault;
 
 // Whether a place is at a command of an accepted body, and which loop encloses it.
 pub fn stand(body: &[u8], place: usize) -> Standing
     ensures { result ≡ stand_of body.now place }
 {
-    let opening = front(body);
-    match opening {
-        Opening::Refused(_, _) => Standing::Nowhere,
-        Opening::Begun => {
-            let walked = walk(body, place);
-            let found = walked.found;
-            found
-        }
+    match front(body) {
+        Ok(()) => walk(body, place).found,
+        Err(_) => Standing::Nowhere,
     }
 }
 
-// A command with where it stands; nowhere, if it stands nowhere or none was read.
-fn placed(standing: Standing, read: Reading) -> Found
+// A command with where it stands, if it stands anywhere and was read.
+fn placed(standing: Standing, read: Result<Command, Fault>) -> Option<Found>
     ensures { result ≡ placed_of standing read }
 {
-    match read {
-        Reading::Refused(_, _) => Found::Nowhere,
-        Reading::Good(command) => match standing {
-            Standing::Nowhere => Found::Nowhere,
-            Standing::Outside => Found::At(standing, command),
-            Standing::Inside(_, _) => Found::At(standing, command),
-        },
+    let command = read.ok()?;
+    match standing {
+        Standing::Nowhere => None,
+        Standing::Outside | Standing::Inside(_, _) => Some(Found { standing, command }),
     }
 }
 
 // The same with the command that stands there, for one that performs it.
-pub fn find(body: &[u8], place: usize) -> Found
+pub fn find(body: &[u8], place: usize) -> Option<Found>
     ensures { result ≡ found_of body.now place }
 {
-    let opening = front(body);
-    match opening {
-        Opening::Refused(_, _) => Found::Nowhere,
-        Opening::Begun => {
-            let walked = walk(body, place);
-            let standing = walked.found;
-            let read = walked.read;
-            placed(standing, read)
-        }
-    }
+    front(body).ok()?;
+    let walked = walk(body, place);
+    placed(walked.found, walked.read)
 }

@@ -8,17 +8,17 @@ ghost use Rattle.loops.specs.Flow.{ended_of, opens_of};
 ghost use Rattle.judge.specs.Verdict.{end_of, commands_of};
 ghost use Rattle.judge.specs.Standing.{inside_of, or_else, stand_at, walked_of};
 
-use crate::{Standing, Verdict, Walked};
-use loops::{Flow, Turn, turned};
-use program::{Reading, read_command};
+use crate::{Ending, Standing, Walked};
+use loops::{Flow, turned};
+use program::{Command, read_command};
+use refusal::{Fault, Refusal};
 
 // A place where judging stands so.
 fn inside(flow: Flow) -> Standing
     ensures { result ≡ inside_of (opens_of flow) }
 {
     match flow {
-        Flow::Free => Standing::Outside,
-        Flow::Ended => Standing::Outside,
+        Flow::Free | Flow::Ended => Standing::Outside,
         Flow::Within(open) => Standing::Inside(open.behind, open.number),
     }
 }
@@ -29,28 +29,30 @@ fn first(found: Standing, here: Standing) -> Standing
 {
     match found {
         Standing::Nowhere => here,
-        Standing::Outside => found,
-        Standing::Inside(_, _) => found,
+        Standing::Outside | Standing::Inside(_, _) => found,
     }
 }
 
 // Where no command is left: an unclosed `L` is 26 at that `L`, and what was found then stands nowhere.
-fn over(flow: Flow, found: Standing, read: Reading) -> Walked
+fn over(flow: Flow, found: Standing, read: Result<Command, Fault>) -> Walked
     ensures { result ≡ walked_of (end_of (ended_of flow) (opens_of flow)) found read }
 {
     match flow {
         Flow::Free => Walked {
-            verdict: Verdict::Finite,
+            verdict: Ok(Ending::Finite),
             found,
             read,
         },
         Flow::Ended => Walked {
-            verdict: Verdict::Endless,
+            verdict: Ok(Ending::Endless),
             found,
             read,
         },
         Flow::Within(open) => Walked {
-            verdict: Verdict::Refused(26, open.caret),
+            verdict: Err(Fault {
+                refusal: Refusal::WrongLoop,
+                place: open.caret,
+            }),
             found: Standing::Nowhere,
             read,
         },
@@ -66,25 +68,27 @@ pub(crate) fn walk(body: &[u8], place: usize) -> Walked
     let mut flow = Flow::Free;
     let mut found = Standing::Nowhere;
     // Until a command is read at the place this says nothing, and no public call shows it.
-    let mut here = Reading::Refused(22, place);
+    let mut here = Err(Fault {
+        refusal: Refusal::NoCommand,
+        place,
+    });
     while at < body.len() {
         let read = read_command(body, at);
         if at == place {
             found = first(found, inside(flow));
             here = read;
         }
-        let said = turned(read, at, flow);
-        match said {
-            Turn::Stop(n, p) => {
+        match turned(read, at, flow) {
+            Err(fault) => {
                 return Walked {
-                    verdict: Verdict::Refused(n, p),
+                    verdict: Err(fault),
                     found: Standing::Nowhere,
                     read: here,
                 };
             }
-            Turn::Next(next, then) => {
-                at = next;
-                flow = then;
+            Ok(turn) => {
+                at = turn.next;
+                flow = turn.flow;
             }
         }
     }

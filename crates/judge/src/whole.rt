@@ -2,22 +2,15 @@
 ghost use Rattle.std.specs.Prelude.{◌≡◌};
 ghost use Rattle.judge.specs.Verdict.{judge_of};
 
+use crate::Verdict;
 use crate::begin::front;
 use crate::walk::walk;
-use crate::{Opening, Verdict};
 
 // Whether a body is a program, and endless; or the first refusal in N0's order. It looks for no place: the one that
 // the walk gets is after the last command.
 pub fn judge(body: &[u8]) -> Verdict
     ensures { result ≡ judge_of body.now }
 {
-    let opening = front(body);
-    match opening {
-        Opening::Refused(n, place) => Verdict::Refused(n, place),
-        Opening::Begun => {
-            let walked = walk(body, body.len());
-            let verdict = walked.verdict;
-            verdict
-        }
-    }
+    front(body)?;
+    walk(body, body.len()).verdict
 }

@@ -29,22 +29,6 @@ use Rattle.refusal.specs.declared.Fault.{Fault}
 use Rattle.refusal.specs.Refusal.{fault}
 use Rattle.std.proofs.Common.{Result, Ok, Err, Option, Some, None}
 
--- the rule at a known role, and at a known flow
-pub rule_role : (m : ℕ) (here : Open) (o : List Open) (r k : Role) → r ≡ k → rule_of (structure_of k m here o) ≡ rule_of (structure_of r m here o)
-rule_role m here o r k e = ap (λ (j : Role). rule_of (structure_of j m here o)) (sym e)
-
-pub rule_flow : (r : Role) (here : Open) (f g : Flow) (x : Option Flow) → f ≡ g → x ≡ rule_of (structure_of r (room_of g) here (opens_of g)) → x ≡ rule_of (structure_of r (room_of f) here (opens_of f))
-rule_flow r here f g x e h = h ∙ ap (λ (k : Flow). rule_of (structure_of r (room_of k) here (opens_of k))) (sym e)
-
--- what the rule says, as a move
-pub turn_broken : (p next : ℕ) (s : Structure) → rule_of s ≡ None → Err (fault 26 p) ≡ turn_of (moved p next s)
-turn_broken p next broken e = refl
-turn_broken p next (kept m e' o) e = let z : ◌≡◌ {A = ℕ} 0 1 = cc in absurd (omega arith)
-
-pub turn_kept : (p place : ℕ) (f : Flow) (s : Structure) → rule_of s ≡ Some f → Ok (go_on place f) ≡ turn_of (moved p place s)
-turn_kept p place f broken e = let z : ◌≡◌ {A = ℕ} 0 1 = cc in absurd (omega arith)
-turn_kept p place f (kept m e' o) e = ap (λ (g : Flow). Ok (go_on place g)) (sym (some_one e))
-
 -- `E`, `F` and `R` are two bytes without parameter
 is_bare : Form → Bool
 is_bare Text = false

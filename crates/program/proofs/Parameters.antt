@@ -47,13 +47,3 @@ ends (Number lo hi most) place at ds = go (digits ds and (within 1 (length ds) m
 -- a parameter does not end before it starts
 pub ends_after : (f : Form) (place at : ℕ) (ds : List ℕ) (r : Parameter) → parameter_of f place at ds ≡ Ok r → at ≤ r.next
 ends_after f place at ds r e = let h = subst (Ends (at + length ds)) e (ends f place at ds) in omega arith
-
--- a parameter of a known form, and a command of a known parameter
-pub by_form : (f g : Form) (place at : ℕ) (ds : List ℕ) (r : Result Parameter Fault) → f ≡ g → r ≡ parameter_of g place at ds → r ≡ parameter_of f place at ds
-by_form f g place at ds r e h = h ∙ ap (λ (k : Form). parameter_of k place at ds) (sym e)
-
-pub bare_end : (b : List ℕ) (f : Form) (place at x : ℕ) → f ≡ Bare → x ≡ get_or b at caret → x ≡ caret → Ok (read_to at 0) ≡ parameter_of f place at (param_of (drop at b))
-bare_end b f place at x e ex h = by_form f Bare place at _ _ e (sym (ap (bare_of at) (param_end b at (sym ex ∙ h))))
-
-pub bare_more : (b : List ℕ) (f : Form) (place at x : ℕ) → f ≡ Bare → x ≡ get_or b at caret → (x ≡ caret → ⊥) → Err (fault 24 at) ≡ parameter_of f place at (param_of (drop at b))
-bare_more b f place at x e ex h = by_form f Bare place at _ _ e (sym (ap (bare_of at) (param_next b at (λ k. h (ex ∙ k)))))

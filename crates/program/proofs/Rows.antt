@@ -92,6 +92,3 @@ module _ (b : List ℕ) (p x y : ℕ) (found : Option Row) (h : p < length b) (e
   pub read_row : (r : Option Row) → found ≡ r → read_of b p ≡ row_of b p r
   unfolding read_of
   read_row r t = ap (row_of b p) (row_at_place b p x y h e ex ey ∙ sym ef ∙ t)
-
-  pub found_row : (k : Kind) (f : Form) (n : ℕ) → found ≡ Some (known k f n) → Plainly n
-  found_row k f n t = row_plain (caret ∷ x ∷ y ∷ []) k f n (sym ef ∙ t)

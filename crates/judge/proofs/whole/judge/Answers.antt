@@ -1,12 +1,16 @@
 -- `judge::whole::judge` meets its contract: what the front refuses, then the commands.
 use mathlib.Core.Path.{sym, ap, ◌∙◌}
+use Rattle.std.proofs.Common.{Err}
+use Rattle.std.proofs.lemmas.Result.{err_from_is_err_and}
 use Rattle.judge.specs.declared.Walked.{Walked}
 use Rattle.judge.proofs.Turns.{front_judged, begun_front}
 use Rattle.judge.proofs.whole.judge.Goals as goal
 
-pub returns-in-Refused : goal.returns-in-Refused
-returns-in-Refused c = sym (front_judged c.args.body.now _ _ (sym c.front-opening.ensures ∙ c.in-Refused.is))
+pub returns-in_err-front : goal.returns-in_err-front
+returns-in_err-front c =
+    let p = err_from_is_err_and c.from_residual.result c.from_residual.ensures.1 in
+    p.1 ∙ ap Err p.2 ∙ sym (front_judged c.args.body.now _ (sym c.in_err-front.ensures))
 
-pub returns-in-Begun : goal.returns-in-Begun
-returns-in-Begun c =
-    ap (λ (w : Walked). w.verdict) c.walk-walked.ensures.judged ∙ sym (begun_front c.args.body.now (sym c.front-opening.ensures ∙ c.in-Begun.is)).0
+pub returns : goal.returns
+returns c =
+    ap (λ (w : Walked). w.verdict) c.walk.ensures.judged ∙ sym (begun_front c.args.body.now (sym c.in_ok-front.ensures)).0

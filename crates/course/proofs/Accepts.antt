@@ -7,10 +7,12 @@ use mathlib.Core.Path.{◌≡◌, refl, sym, ap}
 use native.Mathlib.Omega.{arith}
 use lib.ListN.{length}
 use Rattle.loops.specs.Token.{Act, Part, act, rep, close, forever, again, Tok, good, bad}
-use Rattle.judge.specs.Verdict.{judge}
+use Rattle.judge.specs.Verdict.{Verdict, judge}
 use Rattle.loops.specs.declared.Open.{Open}
-use Rattle.judge.specs.declared.Verdict.{Verdict}
-use Rattle.judge.specs.declared.Verdict.TheVariants.{Finite, Endless, Refused}
+use Rattle.judge.specs.declared.Ending.TheVariants.{Finite, Endless}
+use Rattle.refusal.specs.declared.Fault.{Fault}
+use Rattle.refusal.specs.Refusal.{fault}
+use Rattle.std.proofs.Common.{Ok, Err}
 use Rattle.course.specs.Tree.{Block, stop, one, loop, Ending, ends, starts, ever, Pending, behind, endless, Built, opened, built, build_of, flat, flat_end}
 
 -- the commands behind the block that is being built
@@ -21,11 +23,11 @@ tail (endless ∷ s) e = forever ∷ []
 
 -- the verdict that the loops and the ending make
 abbrev pub shape : List Pending → Ending → Verdict
-shape [] ends = Finite
-shape [] starts = Endless
-shape [] (ever n z b) = Endless
+shape [] ends = Ok Finite
+shape [] starts = Ok Endless
+shape [] (ever n z b) = Ok Endless
 shape (behind b ∷ s) e = shape s e
-shape (endless ∷ s) e = Endless
+shape (endless ∷ s) e = Ok Endless
 
 -- loops at most so deep
 abbrev pub Depth : ℕ → Block → Type 0
@@ -107,22 +109,20 @@ accepted_rep b (endless ∷ (r ∷ s)) e ts m held v n z h = let w : r ∷ s ≡
 
 -- a verdict that is no refusal
 abbrev pub Yes : Verdict → Type 0
-Yes Finite = Unit
-Yes Endless = Unit
-Yes (Refused n p) = ⊥
+Yes (Ok e) = Unit
+Yes (Err w) = ⊥
 
-refused_no : (n p : ℕ) (v : Verdict) → Refused n p ≡ v → Yes v → ⊥
-refused_no n p Finite e y = let z : ◌≡◌ {A = ℕ} 0 1 = cc in omega arith
-refused_no n p Endless e y = let z : ◌≡◌ {A = ℕ} 0 1 = cc in omega arith
-refused_no n p (Refused k q) e y = y
+refused_no : (w : Fault) (v : Verdict) → Err w ≡ v → Yes v → ⊥
+refused_no w (Ok x) e y = let z : ◌≡◌ {A = ℕ} 0 1 = cc in omega arith
+refused_no w (Err x) e y = y
 
 -- behind an `F` or `R` nothing stands, and no loop is open
-ended : (ts : List Tok) (m p : ℕ) (o : List Open) (v : Verdict) → judge ts m p true o ≡ v → Yes v → (ts ≡ []) × ((o ≡ []) × (v ≡ Endless))
+ended : (ts : List Tok) (m p : ℕ) (o : List Open) (v : Verdict) → judge ts m p true o ≡ v → Yes v → (ts ≡ []) × ((o ≡ []) × (v ≡ Ok Endless))
 ended [] m p [] v e y = (refl, (refl, sym e))
-ended [] m p (l ∷ o) v e y = absurd (refused_no 26 l.caret v e y)
-ended (t ∷ ts) m p o v e y = absurd (refused_no 27 p v e y)
+ended [] m p (l ∷ o) v e y = absurd (refused_no (fault 26 l.caret) v e y)
+ended (t ∷ ts) m p o v e y = absurd (refused_no (fault 27 p) v e y)
 
-accepted_forever : (ts : List Tok) (m : ℕ) (o : List Open) (v : Verdict) → (ts ≡ []) × ((o ≡ []) × (v ≡ Endless))
+accepted_forever : (ts : List Tok) (m : ℕ) (o : List Open) (v : Verdict) → (ts ≡ []) × ((o ≡ []) × (v ≡ Ok Endless))
     → AcceptedBuilt (built forever (build_of ts)) (good forever ∷ ts) m (suc (length o)) v
 accepted_forever ts m o v h =
     record {
@@ -134,7 +134,7 @@ accepted_forever ts m o v h =
       bottom = refl;
     }
 
-accepted_again : (ts : List Tok) (m : ℕ) (v : Verdict) (o : List Open) → (ts ≡ []) × ((o ≡ []) × (v ≡ Endless))
+accepted_again : (ts : List Tok) (m : ℕ) (v : Verdict) (o : List Open) → (ts ≡ []) × ((o ≡ []) × (v ≡ Ok Endless))
     → AcceptedBuilt (built again (build_of ts)) (good again ∷ ts) m 0 v
 accepted_again ts m v o h =
     record {
@@ -150,21 +150,21 @@ accepted_again ts m v o h =
 pub accepted : (ts : List Tok) (m p : ℕ) (o : List Open) (v : Verdict) → judge ts m p false o ≡ v → Yes v
     → AcceptedBuilt (build_of ts) ts m (length o) v
 accepted [] m p [] v e y = record { size = refl; parts = refl; verdict = e; deep = tt; deeps = tt; bottom = tt }
-accepted [] m p (l ∷ o) v e y = absurd (refused_no 26 l.caret v e y)
-accepted (bad n q ∷ ts) m p o v e y = absurd (refused_no n q v e y)
+accepted [] m p (l ∷ o) v e y = absurd (refused_no (fault 26 l.caret) v e y)
+accepted (bad w ∷ ts) m p o v e y = absurd (refused_no w v e y)
 accepted (good (act a) ∷ ts) m p o v e y =
     let t = build_of ts in
     accepted_act t.block t.pending t.ending ts m (length o) v a (accepted ts m (p + a.size) o v e y)
-accepted (good (rep n z) ∷ ts) zero p o v e y = absurd (refused_no 26 p v e y)
+accepted (good (rep n z) ∷ ts) zero p o v e y = absurd (refused_no (fault 26 p) v e y)
 accepted (good (rep n z) ∷ ts) (suc m) p o v e y =
     let t = build_of ts in
     accepted_rep t.block t.pending t.ending ts m (length o) v n z
     (accepted ts m (p + z) (record { caret = p; behind = p + z; number = n } ∷ o) v e y)
-accepted (good close ∷ ts) m p [] v e y = absurd (refused_no 26 p v e y)
+accepted (good close ∷ ts) m p [] v e y = absurd (refused_no (fault 26 p) v e y)
 accepted (good close ∷ ts) m p (l ∷ o) v e y =
     let t = build_of ts in
     accepted_close t.block t.pending t.ending ts m (length o) v (accepted ts (suc m) (p + 2) o v e y)
-accepted (good forever ∷ ts) m p [] v e y = absurd (refused_no 26 p v e y)
+accepted (good forever ∷ ts) m p [] v e y = absurd (refused_no (fault 26 p) v e y)
 accepted (good forever ∷ ts) m p (l ∷ o) v e y = accepted_forever ts m o v (ended ts (suc m) (p + 2) o v e y)
 accepted (good again ∷ ts) m p [] v e y = accepted_again ts m v [] (ended ts m (p + 2) [] v e y)
-accepted (good again ∷ ts) m p (l ∷ o) v e y = absurd (refused_no 26 p v e y)
+accepted (good again ∷ ts) m p (l ∷ o) v e y = absurd (refused_no (fault 26 p) v e y)

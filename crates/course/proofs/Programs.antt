@@ -10,9 +10,10 @@ use borrow.Author.Tests.{ltb-false, eqb-true}
 use Rattle.basis.specs.Choice.{when}
 use Rattle.params.specs.Bytes.{caret}
 use Rattle.loops.specs.Token.{Tok, good, get, tokens_of}
-use Rattle.judge.specs.Verdict.{commands_of, judge_of}
-use Rattle.judge.specs.declared.Verdict.{Verdict}
-use Rattle.judge.specs.declared.Verdict.TheVariants.{Finite, Endless, Refused}
+use Rattle.judge.specs.Verdict.{Verdict, commands_of, judge_of}
+use Rattle.refusal.specs.declared.Fault.{Fault}
+use Rattle.refusal.specs.Refusal.{fault}
+use Rattle.std.proofs.Common.{Ok, Err}
 use Rattle.loops.proofs.Tokens.{get_two}
 use Rattle.course.specs.Tree.{Block, Ending, Pending, build_of, tree_in, flat, flat_end, parts_of}
 use Rattle.course.proofs.Accepts.{Yes, Accepted, accepted, shape, Depth}
@@ -32,24 +33,23 @@ pub accepting : (b : List ℕ) (v : Verdict) → judge_of b ≡ v → Yes v → 
 unfolding judge_of
 accepting b v e y = go (ltb 84 (length b)) refl (eqb (get_or b 0 0) caret) refl e
   where
-    no : (n p : ℕ) → Refused n p ≡ v → ⊥
-    no n p w = never v w y
+    no : (x : Fault) → Err x ≡ v → ⊥
+    no x w = never v w y
       where
-        never : (v : Verdict) → Refused n p ≡ v → Yes v → ⊥
-        never Finite w y = let z : ◌≡◌ {A = ℕ} 0 1 = cc in omega arith
-        never Endless w y = let z : ◌≡◌ {A = ℕ} 0 1 = cc in omega arith
-        never (Refused k q) w y = y
+        never : (v : Verdict) → Err x ≡ v → Yes v → ⊥
+        never (Ok e) w y = let z : ◌≡◌ {A = ℕ} 0 1 = cc in omega arith
+        never (Err k) w y = y
 
     full : (b : List ℕ) → get_or b 0 0 ≡ caret → 0 < length b
     full [] w = absurd (omega arith)
     full (x ∷ xs) w = omega arith
 
     go : (long : Bool) → ltb 84 (length b) ≡ long → (first : Bool) → eqb (get_or b 0 0) caret ≡ first
-        → when long (Refused 28 84) (when first (commands_of b) (Refused 21 0)) ≡ v
+        → when long (Err (fault 28 84)) (when first (commands_of b) (Err (fault 21 0))) ≡ v
         → (0 < length b) × ((length b ≤ 84) × (commands_of b ≡ v))
-    go true q first r w = absurd (no 28 84 w)
+    go true q first r w = absurd (no (fault 28 84) w)
     go false q true r w = (full b (eqb-true (get_or b 0 0) caret r), (ltb-false 84 (length b) q, w))
-    go false q false r w = absurd (no 21 0 w)
+    go false q false r w = absurd (no (fault 21 0) w)
 
 -- with no loop left open, what was built is the tree
 closed : (bl : Block) (s : List Pending) (e : Ending) (ts : List Tok) (v : Verdict) → Accepted bl s e ts 1 0 v

@@ -8,7 +8,8 @@ use Rattle.perform.specs.declared.settings.Settings.{Settings}
 use Rattle.perform.specs.declared.price.Performed.{Performed}
 use Rattle.loops.specs.Token.{Part, rep, forever, again, Tok, get}
 use Rattle.judge.specs.Verdict.{judge_of}
-use Rattle.judge.specs.declared.Verdict.TheVariants.{Endless}
+use Rattle.judge.specs.declared.Ending.TheVariants.{Endless}
+use Rattle.std.proofs.Common.{Ok}
 use Rattle.course.specs.Steps.{frame, State, settle, did, says_of, answers_of, started}
 use Rattle.course.specs.Tree.{Block, Ending, ends, starts, ever, tree_in, times, exit_of, unrolled, rounds, ended_by, endlessly, flat, flat_end}
 use Rattle.course.proofs.Accepts.{shape}
@@ -38,12 +39,12 @@ module _ (g : ℕ → Tok) (len : ℕ) where
   rounds_run back t here way zero τ = done
   rounds_run back t here way (suc m) τ = onward (unrolled t τ) (says_of back (exit_of t τ)) (way τ) (rounds_run back t here way m (exit_of t τ))
 
-pub endless_performs : (b : List ℕ) → judge_of b ≡ Endless → (σ : Settings) (k : ℕ)
+pub endless_performs : (b : List ℕ) → judge_of b ≡ Ok Endless → (σ : Settings) (k : ℕ)
     → answers_of (get b) (length b) k (started (length b) σ) ≡ map did (take k (endlessly k (tree_in b) σ))
 endless_performs b e σ k = go (tree_in b).ending p.verdict p.stands
   where
-    p : Program b Endless
-    p = program b Endless e tt
+    p : Program b (Ok Endless)
+    p = program b (Ok Endless) e tt
 
     t : Block
     t = (tree_in b).block
@@ -51,7 +52,7 @@ endless_performs b e σ k = go (tree_in b).ending p.verdict p.stands
     len : ℕ
     len = length b
 
-    go : (x : Ending) → shape [] x ≡ Endless → At (get b) len 0 (flat t (flat_end x))
+    go : (x : Ending) → shape [] x ≡ Ok Endless → At (get b) len 0 (flat t (flat_end x))
         → answers_of (get b) len k (started len σ) ≡ map did (take k (ended_by x k t σ))
     go ends q h = let z : ◌≡◌ {A = ℕ} 0 1 = cc in absurd (omega arith)
     go starts q h =

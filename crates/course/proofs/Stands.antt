@@ -20,8 +20,8 @@ module _ (g : ℕ → Tok) (len : ℕ) (two : (p : ℕ) (c : Part) → g p ≡ g
       split : (t : Tok) → g p ≡ t → (cs : List Part) → chain t (λ z. tokens g len fuel (p + z)) ≡ map good cs → p < len
           → ((q : ℕ) (ds : List Part) → len ≤ q + fuel → tokens g len fuel q ≡ map good ds → At g len q ds)
           → At g len p cs
-      split (bad n q) q1 [] w h ih = absurd (omega (arith, ap length w))
-      split (bad n q) q1 (d ∷ ds) w h ih = let z : ◌≡◌ {A = ℕ} 0 1 = cc in absurd (omega arith)
+      split (bad x) q1 [] w h ih = absurd (omega (arith, ap length w))
+      split (bad x) q1 (d ∷ ds) w h ih = let z : ◌≡◌ {A = ℕ} 0 1 = cc in absurd (omega arith)
       split (good c) q1 [] w h ih = absurd (omega (arith, ap length w))
       split (good c) q1 (d ∷ ds) w h ih =
           let same : c ≡ d = cc in

@@ -10,7 +10,8 @@ use Rattle.perform.specs.declared.settings.Settings.{Settings}
 use Rattle.perform.specs.declared.price.Performed.{Performed}
 use Rattle.loops.specs.Token.{Part, act, rep, close, forever, again, good, get}
 use Rattle.judge.specs.Verdict.{judge_of}
-use Rattle.judge.specs.declared.Verdict.TheVariants.{Finite, Endless}
+use Rattle.judge.specs.declared.Ending.TheVariants.{Finite, Endless}
+use Rattle.std.proofs.Common.{Ok}
 use Rattle.loops.proofs.Tokens.{get_two, get_within}
 use Rattle.course.specs.Steps.{frame, State, ready, settle, did, Busy, says_of, after_of, answers_of, started}
 use Rattle.course.specs.Tree.{Block, stop, one, loop, Ending, ends, starts, ever, exit_of, unrolled, flat, flat_end, tree_in}
@@ -62,20 +63,20 @@ pub record Ends (b : List ℕ) (t : Block) (σ : Settings) : Type 0 where
   pub most : length (unrolled t σ) ≤ 3961
 
 -- a program that comes to an end has no ending of its own
-no_ending : (e : Ending) → shape [] e ≡ Finite → e ≡ ends
+no_ending : (e : Ending) → shape [] e ≡ Ok Finite → e ≡ ends
 no_ending ends q = refl
 no_ending starts q = let z : ◌≡◌ {A = ℕ} 0 1 = cc in absurd (omega arith)
 no_ending (ever n z t) q = let w : ◌≡◌ {A = ℕ} 0 1 = cc in absurd (omega arith)
 
 -- so its block's commands stand in the body, from its first byte to its end
-pub finite_stands : (b : List ℕ) → judge_of b ≡ Finite → At (get b) (length b) 0 (flat (tree_in b).block [])
+pub finite_stands : (b : List ℕ) → judge_of b ≡ Ok Finite → At (get b) (length b) 0 (flat (tree_in b).block [])
 finite_stands b e =
-    let p = program b Finite e tt in
+    let p = program b (Ok Finite) e tt in
     subst (λ (x : Ending). At (get b) (length b) 0 (flat (tree_in b).block (flat_end x))) (no_ending (tree_in b).ending p.verdict) p.stands
 
-pub finite_ends : (b : List ℕ) → judge_of b ≡ Finite → (σ : Settings) → Ends b (tree_in b).block σ
+pub finite_ends : (b : List ℕ) → judge_of b ≡ Ok Finite → (σ : Settings) → Ends b (tree_in b).block σ
 finite_ends b e σ =
-    let p = program b Finite e tt in
+    let p = program b (Ok Finite) e tt in
     let t = (tree_in b).block in
     let g = get b in
     let len = length b in
@@ -97,11 +98,11 @@ finite_ends b e σ =
     }
 
 -- within a program that starts over, or within its loop for ever
-pub endless_never : (b : List ℕ) → judge_of b ≡ Endless → (σ : Settings) (k : ℕ) → Busy (after_of (get b) (length b) k (started (length b) σ))
+pub endless_never : (b : List ℕ) → judge_of b ≡ Ok Endless → (σ : Settings) (k : ℕ) → Busy (after_of (get b) (length b) k (started (length b) σ))
 endless_never b e σ k = go (tree_in b).ending p.verdict p.stands
   where
-    p : Program b Endless
-    p = program b Endless e tt
+    p : Program b (Ok Endless)
+    p = program b (Ok Endless) e tt
 
     t : Block
     t = (tree_in b).block
@@ -109,7 +110,7 @@ endless_never b e σ k = go (tree_in b).ending p.verdict p.stands
     snoc : (xs : List Performed) (y : Performed) → 0 < length (xs ++ y ∷ [])
     snoc xs y = omega (arith, length-append xs (y ∷ []))
 
-    go : (x : Ending) → shape [] x ≡ Endless → At (get b) (length b) 0 (flat t (flat_end x)) → Busy (after_of (get b) (length b) k (started (length b) σ))
+    go : (x : Ending) → shape [] x ≡ Ok Endless → At (get b) (length b) 0 (flat t (flat_end x)) → Busy (after_of (get b) (length b) k (started (length b) σ))
     go ends q h = let z : ◌≡◌ {A = ℕ} 0 1 = cc in absurd (omega arith)
     go starts q h =
         let len = length b in

@@ -63,11 +63,11 @@ pub data Said : Type 0 where
 -- where no command stands, nothing moves: no accepted program comes to such a place
 abbrev pub went_at : (len : ℕ) → Tok → (place : ℕ) → List Frame → Settings → State
 went_at len (good c) p fs σ = goes_of len c p fs σ
-went_at len (bad n q) p fs σ = at p fs σ
+went_at len (bad w) p fs σ = at p fs σ
 
 abbrev pub said_at : Tok → Settings → Said
 said_at (good c) σ = did (says_of c σ)
-said_at (bad n q) σ = idle
+said_at (bad w) σ = idle
 
 -- one step: the next state, and the answer
 abbrev pub next_of : (ℕ → Tok) → (len : ℕ) → State → State

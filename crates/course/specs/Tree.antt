@@ -48,7 +48,7 @@ built again t = record { block = stop; pending = []; ending = starts }
 
 abbrev pub built_tok : Tok → Built → Built
 built_tok (good c) t = built c t
-built_tok (bad n q) t = t
+built_tok (bad w) t = t
 
 -- the tree of a body's commands, from the last to the first
 abbrev pub build_of : List Tok → Built

@@ -11,7 +11,7 @@ use Rattle.program.specs.declared.Kind.{Kind}
 use Rattle.program.specs.declared.Kind.TheVariants.{II, IA, IB, S, L, E, F, R, XS, XF, P, Scans, W, XD, XB, Y}
 use Rattle.program.specs.declared.Form.{Form}
 use Rattle.program.specs.declared.Command.{Command}
-use Rattle.program.specs.declared.Reading.TheVariants.{Good}
+use Rattle.std.proofs.Common.{Ok}
 use Rattle.program.proofs.Laws.{TextAt, made}
 use Rattle.program.proofs.Ranges.{form_of, form_is, InRange, number_in_range}
 use Rattle.perform.specs.Price.{answer_of}
@@ -38,7 +38,7 @@ range_byte XD n h = omega arith
 range_byte XB n h = omega arith
 range_byte Y n h = omega arith
 
-pub number_byte : (b : List ℕ) (p : ℕ) (c : Command) → read_of b p ≡ Good c → c.number ≤ 255
+pub number_byte : (b : List ℕ) (p : ℕ) (c : Command) → read_of b p ≡ Ok c → c.number ≤ 255
 number_byte b p c e = range_byte c.kind c.number (number_in_range b p c e)
 
 -- an answer without text goes by its kind and number alone
@@ -68,7 +68,7 @@ by_kind XB b p at c σ e r t = ap (λ (x : Kind). answer_of x c.number c.text c.
 by_kind Y b p at c σ e r t = ap (λ (x : Kind). answer_of x c.number c.text c.len (widths_of (take c.len (drop c.text b))) σ) e
 
 -- a good command answers what its kind, number, text and widths say
-pub says_is : (b : List ℕ) (p : ℕ) (c : Command) (σ : Settings) → read_of b p ≡ Good c
+pub says_is : (b : List ℕ) (p : ℕ) (c : Command) (σ : Settings) → read_of b p ≡ Ok c
     → says_of (part_of (role_of c.kind) (act_of b p c)) σ
     ≡ answer_of c.kind c.number c.text c.len (widths_of (take c.len (drop c.text b))) σ
 says_is b p c σ e =

@@ -12,7 +12,8 @@ use Rattle.perform.specs.declared.price.Performed.{Performed}
 use Rattle.loops.specs.Token.{get}
 use Rattle.judge.specs.Verdict.{judge_of}
 use Rattle.grammar.specs.Grammar.{accepted_as}
-use Rattle.judge.specs.declared.Verdict.TheVariants.{Finite, Endless}
+use Rattle.judge.specs.declared.Ending.TheVariants.{Finite, Endless}
+use Rattle.std.proofs.Common.{Ok}
 use Rattle.course.specs.Steps.{State, ready, at, did, Busy, started, after_of, answers_of}
 use Rattle.course.specs.Tree.{exit_of, tree_in}
 use Rattle.course.proofs.Programs.{program}
@@ -76,9 +77,9 @@ pub record LineEnds (b : List ℕ) (σ : Settings) : Type 0 where
   pub performed : said_run (length (line_of b σ)) (room_of b) (started_of (length b) σ) ≡ answers_for (line_of b σ)
   pub most : length (line_of b σ) ≤ 3961
 
-pub line_ends : (b : List ℕ) → judge_of b ≡ Finite → (σ : Settings) → settings_sound σ ≡ true → LineEnds b σ
+pub line_ends : (b : List ℕ) → judge_of b ≡ Ok Finite → (σ : Settings) → settings_sound σ ≡ true → LineEnds b σ
 line_ends b e σ set =
-    let p = program b Finite e tt in
+    let p = program b (Ok Finite) e tt in
     let t = finite_ends b e σ in
     let xs = line_of b σ in
     let n = length xs in
@@ -93,17 +94,17 @@ line_ends b e σ set =
     }
 
 -- an endless program is never Ready, however many steps it gets
-pub line_never : (b : List ℕ) → judge_of b ≡ Endless → (σ : Settings) → settings_sound σ ≡ true → (k : ℕ) → BusyRun (after_run k (room_of b) (started_of (length b) σ))
+pub line_never : (b : List ℕ) → judge_of b ≡ Ok Endless → (σ : Settings) → settings_sound σ ≡ true → (k : ℕ) → BusyRun (after_run k (room_of b) (started_of (length b) σ))
 line_never b e σ set k =
-    let p = program b Endless e tt in
+    let p = program b (Ok Endless) e tt in
     subst BusyRun (sym (line_follows b true e σ set p.some k))
     (busy_run b true e σ set p.some (after_of (get b) (length b) k (started (length b) σ)) (endless_never b e σ k))
 
 -- its first answers are the first of what its rounds perform, however many are asked for: so no step of it is refused
-pub line_goes : (b : List ℕ) → judge_of b ≡ Endless → (σ : Settings) → settings_sound σ ≡ true → (k : ℕ)
+pub line_goes : (b : List ℕ) → judge_of b ≡ Ok Endless → (σ : Settings) → settings_sound σ ≡ true → (k : ℕ)
     → said_run k (room_of b) (started_of (length b) σ) ≡ answers_for (take k (rounds_of k b σ))
 line_goes b e σ set k =
-    let p = program b Endless e tt in
+    let p = program b (Ok Endless) e tt in
     line_says b true e σ set p.some k ∙ ap (map say_of) (endless_performs b e σ k) ∙ said_are (take k (rounds_of k b σ))
 
 -- and every run on the way is sound

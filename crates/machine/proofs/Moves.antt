@@ -15,7 +15,7 @@ use Rattle.measure.specs.Width.{widths_of}
 use Rattle.measure.specs.declared.width.Widths.{Widths}
 use Rattle.program.specs.Command.{read_of}
 use Rattle.program.specs.declared.Command.{Command}
-use Rattle.program.specs.declared.Reading.TheVariants.{Good}
+use Rattle.std.proofs.Common.{Ok}
 use Rattle.perform.specs.Price.{answer_of}
 use Rattle.perform.specs.Settings.{behind_of}
 use Rattle.perform.specs.declared.settings.Settings.{Settings}
@@ -88,7 +88,7 @@ moved_by Forever b p c r e = return_by r p r.inner.place r.inner.left r.settings
 moved_by Again b p c r e = settle_is r 0 (frames_of r.inner) r.settings
 
 -- a Busy run with a good command at its place
-pub ran_good : (b : List ℕ) (r : Run) (c : Command) (w : Widths) (x : Run) (y : Performed) → read_of b r.place ≡ Good c
+pub ran_good : (b : List ℕ) (r : Run) (c : Command) (w : Widths) (x : Run) (y : Performed) → read_of b r.place ≡ Ok c
     → w ≡ widths_of (take c.len (drop c.text b))
     → y ≡ answer_of c.kind c.number c.text c.len w r.settings
     → x ≡ moved_of (role_of c.kind) c.kind c.number r c.next

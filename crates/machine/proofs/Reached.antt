@@ -8,12 +8,13 @@ use native.Mathlib.Omega.{arith}
 use lib.ListN.{length}
 use Rattle.loops.specs.Token.{Part, act, rep, close, forever, again, Tok, good, bad, size_of, get, chain, tokens_of}
 use Rattle.loops.specs.Structure.{Structure, broken, kept, structure_of, role_in, opened, moved}
-use Rattle.judge.specs.Verdict.{judge, judged}
+use Rattle.judge.specs.Verdict.{Verdict, judge, judged}
 use Rattle.grammar.specs.Grammar.{accepted_as}
 use Rattle.grammar.specs.Reach.{Reach, start, past}
 use Rattle.loops.specs.declared.Open.{Open}
-use Rattle.judge.specs.declared.Verdict.{Verdict}
-use Rattle.judge.specs.declared.Verdict.TheVariants.{Finite, Endless, Refused}
+use Rattle.refusal.specs.declared.Fault.{Fault}
+use Rattle.refusal.specs.Refusal.{fault}
+use Rattle.std.proofs.Common.{Ok, Err}
 use Rattle.judge.specs.declared.Standing.{Standing}
 use Rattle.grammar.proofs.Refusals.{reach_judge}
 use Rattle.grammar.proofs.Standings.{At}
@@ -104,24 +105,23 @@ pub record Here (b : List ℕ) (p m : ℕ) (e : Bool) (o : List Open) : Type 0 w
   pub opens : List Open
   pub stays : structure_of (role_in part) m (opened p part) o ≡ kept room ended opens
 
-refusal_no : (n q : ℕ) (v : Verdict) → Refused n q ≡ v → Yes v → ⊥
-refusal_no n q Finite e y = let z : ◌≡◌ {A = ℕ} 0 1 = cc in omega arith
-refusal_no n q Endless e y = let z : ◌≡◌ {A = ℕ} 0 1 = cc in omega arith
-refusal_no n q (Refused k r) e y = y
+refusal_no : (w : Fault) (v : Verdict) → Err w ≡ v → Yes v → ⊥
+refusal_no w (Ok x) e y = let z : ◌≡◌ {A = ℕ} 0 1 = cc in omega arith
+refusal_no w (Err x) e y = y
 
 here_by : (b : List ℕ) (p m : ℕ) (e : Bool) (o : List Open) (v : Verdict) (t : Tok) → get b p ≡ t
     → judge (chain t (λ z. tokens_of b (p + z))) m p e o ≡ v
     → Yes v
     → Here b p m e o
-here_by b p m true o v (good c) g j y = absurd (refusal_no 27 p v j y)
-here_by b p m true o v (bad n q) g j y = absurd (refusal_no 27 p v j y)
-here_by b p m false o v (bad n q) g j y = absurd (refusal_no n q v j y)
+here_by b p m true o v (good c) g j y = absurd (refusal_no (fault 27 p) v j y)
+here_by b p m true o v (bad w) g j y = absurd (refusal_no (fault 27 p) v j y)
+here_by b p m false o v (bad w) g j y = absurd (refusal_no w v j y)
 here_by b p m false o v (good c) g j y = go (structure_of (role_in c) m (opened p c) o) refl j
   where
     go : (s : Structure) → structure_of (role_in c) m (opened p c) o ≡ s
         → judged (moved p (p + size_of c) s) (λ next m' e' o'. judge (tokens_of b (p + size_of c)) m' next e' o') ≡ v
         → Here b p m false o
-    go broken q w = absurd (refusal_no 26 p v w y)
+    go broken q w = absurd (refusal_no (fault 26 p) v w y)
     go (kept m' e' o') q w = record { part = c; there = g; going = refl; room = m'; ended = e'; opens = o'; stays = q }
 
 pub accepted_yes : (e : Bool) → Yes (accepted_as e)

@@ -13,12 +13,13 @@ use Rattle.basis.proofs.Choices.{and_parts}
 use Rattle.basis.proofs.Tests.{tests}
 use Rattle.program.specs.Command.{read_of}
 use Rattle.program.specs.declared.Command.{Command}
-use Rattle.program.specs.declared.Reading.{Reading}
-use Rattle.program.specs.declared.Reading.TheVariants.{Good, Refused as Bad}
 use Rattle.loops.specs.Token.{good, bad, tok_of}
-use Rattle.judge.specs.declared.Found.TheVariants.{Nowhere as Missing, At}
+use Rattle.judge.specs.declared.Found.{Found}
+use Rattle.refusal.specs.declared.Fault.{Fault}
+use Rattle.std.proofs.Common.{Result, Ok, Err, Option, Some, None}
 use Rattle.judge.specs.declared.Standing.{Standing}
 use Rattle.judge.specs.declared.Standing.TheVariants.{Nowhere, Outside, Inside}
+use Rattle.refusal.proofs.Names.{some_one}
 use Rattle.grammar.proofs.Standings.{At as StandsAt, stands_at}
 use Rattle.judge.specs.Standing.{stand_of, placed_of, found_of}
 use Rattle.perform.specs.Settings.{sound_of as settings_sound}
@@ -80,35 +81,35 @@ module _ (b : List ℕ) (p : ℕ) (l : Loop) (held : held_of (stand_of b p) l �
       (accepting b (accepted_as a.endless) a.accepted (accepted_yes a.endless)).1.0
 
   -- and the command there is good
-  held_good : (n q : ℕ) → read_of b p ≡ Bad n q → ⊥
-  held_good n q w =
+  held_good : (x : Fault) → read_of b p ≡ Err x → ⊥
+  held_good x w =
       let h = here b p (stand_of b p) held_at in
-      let k : bad n q ≡ good h.part = sym (ap (tok_of b p) w) ∙ h.there in
+      let k : bad x ≡ good h.part = sym (ap (tok_of b p) w) ∙ h.there in
       let z : ◌≡◌ {A = ℕ} 0 1 = cc in
       omega arith
 
 -- what is found at a place is where it stands and what is read there
-pub found_is : (s t : Standing) (r : Reading) (c : Command) → placed_of s r ≡ At t c → (s ≡ t) × (r ≡ Good c)
-found_is Nowhere t r c e = let z : ◌≡◌ {A = ℕ} 0 1 = cc in absurd (omega arith)
-found_is Outside t (Bad n q) c e = let z : ◌≡◌ {A = ℕ} 0 1 = cc in absurd (omega arith)
-found_is Outside t (Good d) c e = let w : Outside ≡ t = cc in let z : d ≡ c = cc in (w, ap Good z)
-found_is (Inside behind number) t (Bad n q) c e = let z : ◌≡◌ {A = ℕ} 0 1 = cc in absurd (omega arith)
-found_is (Inside behind number) t (Good d) c e = let w : Inside behind number ≡ t = cc in let z : d ≡ c = cc in (w, ap Good z)
+pub found_is : (s : Standing) (r : Result Command Fault) (f : Found) → placed_of s r ≡ Some f → (s ≡ f.standing) × (r ≡ Ok f.command)
+found_is Nowhere r f e = let z : ◌≡◌ {A = ℕ} 0 1 = cc in absurd (omega arith)
+found_is Outside (Err w) f e = let z : ◌≡◌ {A = ℕ} 0 1 = cc in absurd (omega arith)
+found_is Outside (Ok d) f e = let h = some_one e in (ap (λ (x : Found). x.standing) h, ap (λ (x : Found). Ok x.command) h)
+found_is (Inside behind number) (Err w) f e = let z : ◌≡◌ {A = ℕ} 0 1 = cc in absurd (omega arith)
+found_is (Inside behind number) (Ok d) f e = let h = some_one e in (ap (λ (x : Found). x.standing) h, ap (λ (x : Found). Ok x.command) h)
 
 -- a command at a place that is held is found
-held_found : (s : Standing) (l : Loop) (c : Command) → held_of s l ≡ true → placed_of s (Good c) ≡ At s c
+held_found : (s : Standing) (l : Loop) (c : Command) → held_of s l ≡ true → placed_of s (Ok c) ≡ Some (record { standing = s; command = c })
 held_found Nowhere l c h = let z : ◌≡◌ {A = ℕ} 0 1 = cc in absurd (omega arith)
 held_found Outside l c h = refl
 held_found (Inside behind number) l c h = refl
 
 -- so a place where nothing is found is not held
-pub missing_unheld : (b : List ℕ) (p : ℕ) (l : Loop) → found_of b p ≡ Missing → held_of (stand_of b p) l ≡ false
+pub missing_unheld : (b : List ℕ) (p : ℕ) (l : Loop) → found_of b p ≡ None → held_of (stand_of b p) l ≡ false
 missing_unheld b p l e = go (held_of (stand_of b p) l) refl
   where
-    by : held_of (stand_of b p) l ≡ true → (r : Reading) → read_of b p ≡ r → ⊥
-    by h (Bad n q) w = held_good b p l h n q w
-    by h (Good c) w =
-        let k : At (stand_of b p) c ≡ Missing = sym (held_found (stand_of b p) l c h) ∙ ap (placed_of (stand_of b p)) (sym w) ∙ e in
+    by : held_of (stand_of b p) l ≡ true → (r : Result Command Fault) → read_of b p ≡ r → ⊥
+    by h (Err x) w = held_good b p l h x w
+    by h (Ok c) w =
+        let k : ◌≡◌ {A = Option Found} (Some (record { standing = stand_of b p; command = c })) None = sym (held_found (stand_of b p) l c h) ∙ ap (placed_of (stand_of b p)) (sym w) ∙ e in
         let z : ◌≡◌ {A = ℕ} 0 1 = cc in
         omega arith
 

@@ -1,7 +1,6 @@
 // One step of a run: rules S1 and S6 to S13, and N16.
-ghost use Rattle.std.specs.Prelude.{◌≡◌, [], true};
+ghost use Rattle.std.specs.Prelude.{◌≡◌, [], true, Ok};
 ghost use Rattle.program.specs.Command.{read_of};
-ghost use Rattle.program.specs.declared.Reading.TheVariants.{Good};
 ghost use Rattle.loops.specs.Token.{role_of};
 ghost use Rattle.judge.specs.Standing.{stand_of};
 ghost use Rattle.machine.specs.Sound.{held_of};
@@ -10,7 +9,7 @@ ghost use Rattle.machine.specs.Moves.{settled_of, closed_of, returned_of, moved_
 
 use crate::sound::{filled, held, rests};
 use crate::{Answer, Loop, Run, Stepped};
-use judge::{Found, find};
+use judge::find;
 use loops::{Role, role_of};
 use measure::measure_at;
 use perform::{Settings, perform};
@@ -114,7 +113,7 @@ impl Run {
 
     // A Busy run goes on by the command at its place in the running body.
     fn run(self, body: &[u8], command: Command) -> Stepped
-        requires { (held_of (stand_of body.now self.place) self.inner ≡ true) × (read_of body.now self.place ≡ Good command) }
+        requires { (held_of (stand_of body.now self.place) self.inner ≡ true) × (read_of body.now self.place ≡ Ok command) }
         ensures { result ≡ ran_of body.now self }
     {
         let settings = self.settings;
@@ -165,15 +164,12 @@ impl Run {
             return self.unsound();
         }
         let body = &room[..len];
-        let found = find(body, place);
-        match found {
-            Found::Nowhere => self.unsound(),
-            Found::At(standing, command) => {
-                if !held(standing, inner) {
-                    return self.unsound();
-                }
-                self.run(body, command)
-            }
+        let Some(found) = find(body, place) else {
+            return self.unsound();
+        };
+        if !held(found.standing, inner) {
+            return self.unsound();
         }
+        self.run(body, found.command)
     }
 }

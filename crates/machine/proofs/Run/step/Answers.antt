@@ -51,33 +51,33 @@ returns-then-not-held c =
     let set = sym c.sound.ensures ∙ c.if-not-sound.false in
     let busy = c.if-len-eq0.false in
     let full = sym c.filled.ensures ∙ c.if-not-filled.false in
-    let found = found_is (stand_of (body_of a.room.now a.self) a.self.place) _ (read_of (body_of a.room.now a.self) a.self.place) _ (sym c.find-found.ensures ∙ c.in-At.is) in
+    let found = found_is (stand_of (body_of a.room.now a.self) a.self.place) (read_of (body_of a.room.now a.self) a.self.place) _ (sym c.find.ensures ∙ c.in-Some.is) in
     let held = ap (λ (x : Standing). held_of x a.self.inner) found.0 ∙ sym c.held.ensures ∙ c.if-not-held.true in
     c.unsound-then-not-held.ensures ∙ sym (step_unsound a.room.now a.self (running a.room.now a.self set busy full ∙ held))
 
 pub run-requires : goal.run-requires
 run-requires c =
     let a = c.args in
-    let found = found_is (stand_of (body_of a.room.now a.self) a.self.place) _ (read_of (body_of a.room.now a.self) a.self.place) _ (sym c.find-found.ensures ∙ c.in-At.is) in
+    let found = found_is (stand_of (body_of a.room.now a.self) a.self.place) (read_of (body_of a.room.now a.self) a.self.place) _ (sym c.find.ensures ∙ c.in-Some.is) in
     let held = ap (λ (x : Standing). held_of x a.self.inner) found.0 ∙ sym c.held.ensures ∙ c.if-not-held.false in
     (held, found.1)
 
-pub returns-in-Nowhere : goal.returns-in-Nowhere
-returns-in-Nowhere c =
+pub returns-in_default : goal.returns-in_default
+returns-in_default c =
     let a = c.args in
     let set = sym c.sound.ensures ∙ c.if-not-sound.false in
     let busy = c.if-len-eq0.false in
     let full = sym c.filled.ensures ∙ c.if-not-filled.false in
-    let none = sym c.find-found.ensures ∙ c.in-Nowhere.is in
+    let none = sym c.find.ensures ∙ c.in_default.is in
     let held = missing_unheld (body_of a.room.now a.self) a.self.place a.self.inner none in
-    c.unsound-in-Nowhere.ensures ∙ sym (step_unsound a.room.now a.self (running a.room.now a.self set busy full ∙ held))
+    c.unsound-in_default.ensures ∙ sym (step_unsound a.room.now a.self (running a.room.now a.self set busy full ∙ held))
 
-pub returns-else-not-held : goal.returns-else-not-held
-returns-else-not-held c =
+pub returns : goal.returns
+returns c =
     let a = c.args in
     let set = sym c.sound.ensures ∙ c.if-not-sound.false in
     let busy = c.if-len-eq0.false in
     let full = sym c.filled.ensures ∙ c.if-not-filled.false in
-    let found = found_is (stand_of (body_of a.room.now a.self) a.self.place) _ (read_of (body_of a.room.now a.self) a.self.place) _ (sym c.find-found.ensures ∙ c.in-At.is) in
+    let found = found_is (stand_of (body_of a.room.now a.self) a.self.place) (read_of (body_of a.room.now a.self) a.self.place) _ (sym c.find.ensures ∙ c.in-Some.is) in
     let held = ap (λ (x : Standing). held_of x a.self.inner) found.0 ∙ sym c.held.ensures ∙ c.if-not-held.false in
     c.run.ensures ∙ sym (step_busy a.room.now a.self (running a.room.now a.self set busy full ∙ held) busy)

@@ -13,7 +13,8 @@ use Rattle.perform.specs.Settings.{sound_of as settings_sound}
 use Rattle.perform.specs.declared.settings.Settings.{Settings}
 use Rattle.perform.specs.declared.price.Performed.{Performed}
 use Rattle.judge.specs.Verdict.{judge_of}
-use Rattle.judge.specs.declared.Verdict.TheVariants.{Finite, Endless}
+use Rattle.judge.specs.declared.Ending.TheVariants.{Finite, Endless}
+use Rattle.std.proofs.Common.{Ok}
 use Rattle.course.specs.Tree.{exit_of, unrolled, tree_in}
 use Rattle.course.specs.Price.{sum_by, ones, scans, millis, price_of}
 use Rattle.course.proofs.Agrees.{Cares, price_agree, ones_care, scans_care, millis_care}
@@ -31,10 +32,10 @@ use Rattle.totals.proofs.Sums.{totals_are}
 
 module _ (b : List ℕ) (σ : Settings) (set : settings_sound σ ≡ true) where
   -- the forecast at the pace and scans that the sign is set to, by what its line performs and the settings that it leaves
-  pub forecast_holds : judge_of b ≡ Finite
+  pub forecast_holds : judge_of b ≡ Ok Finite
       → forecast_of b σ.pace σ.scans
-      ≡ Ends (totals_of (length (line_of b σ)) (sum_by scans (line_of b σ)) (sum_by millis (line_of b σ))) (exit_of (tree_in b).block σ).pace
-      (exit_of (tree_in b).block σ).scans
+      ≡ Ok (Ends (totals_of (length (line_of b σ)) (sum_by scans (line_of b σ)) (sum_by millis (line_of b σ))) (exit_of (tree_in b).block σ).pace
+      (exit_of (tree_in b).block σ).scans)
   forecast_holds e =
       let r = ranged σ set in
       let τ = settings_at σ.pace σ.scans in
@@ -50,13 +51,13 @@ module _ (b : List ℕ) (σ : Settings) (set : settings_sound σ ≡ true) where
       totals_are _ _ _ _ _ _ steps (uncapped (price_of scans t τ) (scans_fit b e τ sound) ∙ same scans scans_care)
       (uncapped (price_of millis t τ) (millis_fit b e τ sound) ∙ same millis millis_care) in
       let left = exit_like t τ σ (refl, refl) in
-      in_range b σ.pace σ.scans r.pace_least r.pace_most r.scans_least r.scans_most Finite e
-      ∙ ap (by_verdict Finite _) (sym (exit_settled b e τ sound))
-      ∙ ap (λ (u : Totals). Ends u (exit_of t τ).pace (exit_of t τ).scans) (sym (tallies_price b e τ sound) ∙ sums)
-      ∙ ap (λ (n : ℕ). Ends whole n (exit_of t τ).scans) left.0
-      ∙ ap (Ends whole (exit_of t σ).pace) left.1
+      in_range b σ.pace σ.scans r.pace_least r.pace_most r.scans_least r.scans_most (Ok Finite) e
+      ∙ ap (by_verdict (Ok Finite) _) (sym (exit_settled b e τ sound))
+      ∙ ap (λ (u : Totals). Ok (Ends u (exit_of t τ).pace (exit_of t τ).scans)) (sym (tallies_price b e τ sound) ∙ sums)
+      ∙ ap (λ (n : ℕ). Ok (Ends whole n (exit_of t τ).scans)) left.0
+      ∙ ap (λ (n : ℕ). Ok (Ends whole (exit_of t σ).pace n)) left.1
 
-  pub forecast_never : judge_of b ≡ Endless → forecast_of b σ.pace σ.scans ≡ Never
+  pub forecast_never : judge_of b ≡ Ok Endless → forecast_of b σ.pace σ.scans ≡ Ok Never
   forecast_never e =
       let r = ranged σ set in
-      in_range b σ.pace σ.scans r.pace_least r.pace_most r.scans_least r.scans_most Endless e
+      in_range b σ.pace σ.scans r.pace_least r.pace_most r.scans_least r.scans_most (Ok Endless) e

@@ -13,9 +13,10 @@ use Rattle.units.specs.Units.{capped}
 use Rattle.perform.specs.Settings.{sound_of as settings_sound}
 use Rattle.perform.specs.declared.settings.Settings.{Settings}
 use Rattle.perform.specs.declared.price.Performed.{Performed}
-use Rattle.judge.specs.Verdict.{judge_of}
-use Rattle.judge.specs.declared.Verdict.{Verdict}
-use Rattle.judge.specs.declared.Verdict.TheVariants.{Finite}
+use Rattle.judge.specs.Verdict.{Verdict, judge_of}
+use Rattle.judge.specs.declared.Ending.TheVariants.{Finite}
+use Rattle.refusal.specs.Refusal.{fault}
+use Rattle.std.proofs.Common.{Ok, Err}
 use Rattle.course.specs.Price.{sum_by, ones, scans, millis, price_of}
 use Rattle.course.specs.Tree.{exit_of, tree_in}
 use Rattle.course.proofs.Theorem.{finite_ends}
@@ -27,7 +28,6 @@ use Rattle.reckon.specs.Forecast.{prices_of}
 use Rattle.machine.specs.declared.Answer.{Answer}
 use Rattle.machine.specs.declared.Answer.TheVariants.{Did}
 use Rattle.machine.specs.declared.Run.{Run}
-use Rattle.reckon.specs.declared.reckon.Foretold.TheVariants.{Refused}
 use Rattle.machine.proofs.Follows.{ready_none}
 use Rattle.machine.proofs.Lines.{BusyRun, line_ends}
 use Rattle.machine.proofs.Ranges.{sounds}
@@ -50,7 +50,7 @@ tally_is f (suc fuel) (x ∷ xs) room r most said busy done =
     ∙ ap (λ (n : ℕ). f x + n) (tally_is f fuel xs room (step_of room r).run (omega arith) rest (λ k h. busy (suc k) (omega arith)) done)
 
 -- each sum until Ready is the price
-pub tally_price : (b : List ℕ) → judge_of b ≡ Finite → (σ : Settings) → settings_sound σ ≡ true → (f : Performed → ℕ)
+pub tally_price : (b : List ℕ) → judge_of b ≡ Ok Finite → (σ : Settings) → settings_sound σ ≡ true → (f : Performed → ℕ)
     → tally f most_steps (room_of b) (started_of (length b) σ) ≡ price_of f (tree_in b).block σ
 tally_price b e σ set f =
     let l = line_ends b e σ set in
@@ -58,7 +58,7 @@ tally_price b e σ set f =
     tally_is f most_steps xs (room_of b) (started_of (length b) σ) l.most l.performed l.busy_before (ap (λ (r : Run). r.len) l.ready_then ∙ ready_none _)
     ∙ (finite_ends b e σ).adds_up f
 
-pub tallies_price : (b : List ℕ) → judge_of b ≡ Finite → (σ : Settings) → settings_sound σ ≡ true
+pub tallies_price : (b : List ℕ) → judge_of b ≡ Ok Finite → (σ : Settings) → settings_sound σ ≡ true
     → prices_of (tree_in b).block σ ≡ tallies_of (room_of b) (started_of (length b) σ)
 unfolding tallies_of
 tallies_price b e σ set =
@@ -77,7 +77,7 @@ left_is (suc fuel) (suc n) room r most busy done =
     ∙ left_is fuel n room (step_of room r).run (omega arith) (λ k h. busy (suc k) (omega arith)) done
 
 -- a program that ends is Ready with the settings behind its block
-pub exit_settled : (b : List ℕ) → judge_of b ≡ Finite → (σ : Settings) → settings_sound σ ≡ true
+pub exit_settled : (b : List ℕ) → judge_of b ≡ Ok Finite → (σ : Settings) → settings_sound σ ≡ true
     → exit_of (tree_in b).block σ ≡ settled_of (room_of b) (started_of (length b) σ)
 unfolding settled_of ready_of
 exit_settled b e σ set =
@@ -97,7 +97,7 @@ module _ (b : List ℕ) (pace each : ℕ) (h1 : 1 ≤ pace) (h2 : pace ≤ 20) (
   unfolding forecast_of
   in_range v e =
       let r = started_of (length b) (settings_at pace each) in
-      when_false (out_of_range pace each) (Refused 17 0) (by_verdict (judge_of b) (tallies_of (room_of b) r) (settled_of (room_of b) r)) ranged
+      when_false (out_of_range pace each) (Err (fault 17 0)) (by_verdict (judge_of b) (tallies_of (room_of b) r) (settled_of (room_of b) r)) ranged
       ∙ ap (λ (x : Verdict). by_verdict x (tallies_of (room_of b) r) (settled_of (room_of b) r)) e
 
   pub settings_sound_lem : settings_sound (settings_at pace each) ≡ true

@@ -55,7 +55,7 @@ added_like (good c) x y h = (
     ap (λ (t : Totals). plus_of t (cost_of (says_of c x.settings))) h.1.1 ∙ ap (plus_of y.totals) (cost_like c x.settings y.settings h.1.0),
   ),
 )
-added_like (bad n q) x y h = h
+added_like (bad w) x y h = h
 
 stride_like : (ts : List Tok) (x y : Reckoned) → Like x y → Like (stride_of ts x) (stride_of ts y)
 stride_like [] x y h = h
@@ -64,7 +64,7 @@ stride_like (good (rep n z) ∷ ts) x y h = h
 stride_like (good close ∷ ts) x y h = h
 stride_like (good forever ∷ ts) x y h = h
 stride_like (good again ∷ ts) x y h = h
-stride_like (bad n q ∷ ts) x y h = h
+stride_like (bad w ∷ ts) x y h = h
 
 -- the same pass from other settings
 abbrev pub from_other : Reckoned → Settings → Reckoned

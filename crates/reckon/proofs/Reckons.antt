@@ -14,7 +14,8 @@ use Rattle.program.proofs.Laws.{starts_within}
 use Rattle.program.specs.declared.Kind.{Kind}
 use Rattle.program.specs.declared.Kind.TheVariants.{II, IA, IB, S, L, E, F, R, XS, XF, P, Scans, W, XD, XB, Y}
 use Rattle.program.specs.declared.Command.{Command}
-use Rattle.program.specs.declared.Reading.TheVariants.{Good, Refused}
+use Rattle.refusal.specs.declared.Fault.{Fault}
+use Rattle.std.proofs.Common.{Ok, Err}
 use Rattle.perform.specs.Price.{answer_of}
 use Rattle.perform.specs.Settings.{behind_of}
 use Rattle.perform.specs.declared.settings.Settings.{Settings}
@@ -56,10 +57,10 @@ sets_by F b p c σ e = refl
 sets_by R b p c σ e = refl
 
 -- what stands at the place of a good command
-pub stands_good : (b : List ℕ) (p : ℕ) (c : Command) → read_of b p ≡ Good c → get b p ≡ good (part_of (role_of c.kind) (act_of b p c))
+pub stands_good : (b : List ℕ) (p : ℕ) (c : Command) → read_of b p ≡ Ok c → get b p ≡ good (part_of (role_of c.kind) (act_of b p c))
 stands_good b p c e = ap (tok_of b p) e
 
-module _ (b : List ℕ) (s : Reckoned) (c : Command) (e : read_of b s.place ≡ Good c) where
+module _ (b : List ℕ) (s : Reckoned) (c : Command) (e : read_of b s.place ≡ Ok c) where
   pub added_is : (w : Widths) (y : Performed) (τ : Settings) (u v : Totals) → w ≡ widths_of (take c.len (drop c.text b))
       → y ≡ answer_of c.kind c.number c.text c.len w s.settings
       → τ ≡ behind_of c.kind c.number s.settings
@@ -116,9 +117,9 @@ module _ (b : List ℕ) (s : Reckoned) (c : Command) (e : read_of b s.place ≡ 
         go Again q = let z : ◌≡◌ {A = ℕ} 0 1 = cc in absurd (omega arith)
 
 -- where nothing good stands a stride stops too
-pub stride_none : (b : List ℕ) (s : Reckoned) (n q : ℕ) → s.place < length b → read_of b s.place ≡ Refused n q
+pub stride_none : (b : List ℕ) (s : Reckoned) (w : Fault) → s.place < length b → read_of b s.place ≡ Err w
     → stride_of (tokens_of b s.place) s ≡ s
-stride_none b s n q within e =
+stride_none b s w within e =
     ap (λ (ts : List Tok). stride_of ts s) (tokens_first b s.place within)
     ∙ ap (λ (t : Tok). stride_of (chain t (λ z. tokens_of b (s.place + z))) s) (ap (tok_of b s.place) e)
 
@@ -127,13 +128,13 @@ pub stride_ends : (b : List ℕ) (s : Reckoned) → length b ≤ s.place → str
 stride_ends b s h = ap (λ (ts : List Tok). stride_of ts s) (tokens_none b s.place h)
 
 -- one pass ends where nothing good stands
-pub pass_ends : (b : List ℕ) (s : Reckoned) (n q : ℕ) → read_of b s.place ≡ Refused n q → pass_of b s ≡ s
-pass_ends b s n q e =
+pub pass_ends : (b : List ℕ) (s : Reckoned) (w : Fault) → read_of b s.place ≡ Err w → pass_of b s ≡ s
+pass_ends b s w e =
     let here : stride_of (tokens_of b s.place) s ≡ s =
-    dite (dec_lt s.place (length b)) (λ h. stride_none b s n q h e) (λ h. stride_ends b s (omega arith)) in
+    dite (dec_lt s.place (length b)) (λ h. stride_none b s w h e) (λ h. stride_ends b s (omega arith)) in
     ap (λ (x : Reckoned). added_of (get b x.place) x) here ∙ ap (λ (t : Tok). added_of t s) (ap (tok_of b s.place) e)
 
-module _ (b : List ℕ) (s : Reckoned) (c : Command) (e : read_of b s.place ≡ Good c) where
+module _ (b : List ℕ) (s : Reckoned) (c : Command) (e : read_of b s.place ≡ Ok c) where
   -- it ends with a command of structure
   pub pass_stops : plain_of (role_of c.kind) ≡ false → pass_of b s ≡ added_of (get b s.place) s
   pass_stops h = ap (λ (x : Reckoned). added_of (get b x.place) x) (stride_stops b s c e (starts_within b s.place c e) h)

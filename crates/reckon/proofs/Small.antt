@@ -22,7 +22,8 @@ use Rattle.perform.specs.declared.settings.Settings.{Settings}
 use Rattle.perform.specs.declared.price.Performed.{Performed}
 use Rattle.loops.specs.Token.{Act, Part, act, rep, close, good, get}
 use Rattle.judge.specs.Verdict.{judge_of}
-use Rattle.judge.specs.declared.Verdict.TheVariants.{Finite}
+use Rattle.judge.specs.declared.Ending.TheVariants.{Finite}
+use Rattle.std.proofs.Common.{Ok}
 use Rattle.loops.proofs.Values.{get_act}
 use Rattle.course.specs.Steps.{says_of, sets_of}
 use Rattle.course.specs.Tree.{Block, stop, one, loop, flat, tree_in}
@@ -143,14 +144,14 @@ module _ (b : List ℕ) (f : Performed → ℕ) (most : ℕ)
       omega (arith, opens n z σ)
 
 -- the totals of a program that ends fit 32 bits
-module _ (b : List ℕ) (e : judge_of b ≡ Finite) (σ : Settings) (set : settings_sound σ ≡ true) where
+module _ (b : List ℕ) (e : judge_of b ≡ Ok Finite) (σ : Settings) (set : settings_sound σ ≡ true) where
   steps_fit : price_of ones (tree_in b).block σ ≤ 3961
   steps_fit = let x = finite_ends b e σ in omega (arith, x.counts, x.most)
 
   pub scans_fit : price_of scans (tree_in b).block σ < 2 ^ 32
   unfolding answer_of
   scans_fit =
-      let p = program b Finite e tt in
+      let p = program b (Ok Finite) e tt in
       omega (
         arith,
         steps_fit,
@@ -160,7 +161,7 @@ module _ (b : List ℕ) (e : judge_of b ≡ Finite) (σ : Settings) (set : setti
   pub millis_fit : price_of millis (tree_in b).block σ < 2 ^ 32
   unfolding answer_of
   millis_fit =
-      let p = program b Finite e tt in
+      let p = program b (Ok Finite) e tt in
       omega (
         arith,
         steps_fit,

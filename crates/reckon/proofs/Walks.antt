@@ -7,21 +7,21 @@ use native.Mathlib.Omega.{arith}
 use lib.ListN.{length}
 use Rattle.program.specs.Command.{read_of}
 use Rattle.program.specs.declared.Command.{Command}
-use Rattle.program.specs.declared.Reading.TheVariants.{Good, Refused}
 use Rattle.perform.specs.declared.settings.Settings.{Settings}
 use Rattle.loops.specs.Token.{role_of, Act, Part, act, rep, close, forever, again, Tok, good, bad, size_of, part_of, act_of, tok_of, get, tokens_of}
 use Rattle.loops.specs.Structure.{role_in, opened}
-use Rattle.loops.specs.Flow.{ended_of, opens_of}
-use Rattle.judge.specs.Verdict.{end_of, commands_of, judge_of}
+use Rattle.loops.specs.Flow.{ended_of, opens_of, go_on}
+use Rattle.judge.specs.Verdict.{Verdict, end_of, commands_of, judge_of}
 use Rattle.loops.specs.declared.Role.{Role}
 use Rattle.loops.specs.declared.Role.TheVariants.{Plain, Repeat, Close, Forever, Again}
-use Rattle.judge.specs.declared.Verdict.{Verdict}
-use Rattle.judge.specs.declared.Verdict.TheVariants.{Finite, Endless, Refused as NoProgram}
 use Rattle.loops.specs.declared.Open.{Open}
 use Rattle.loops.specs.declared.Flow.{Flow}
 use Rattle.loops.specs.declared.Flow.TheVariants.{Free, Within, Ended}
-use Rattle.loops.specs.declared.Turn.TheVariants.{Next}
+use Rattle.judge.specs.declared.Ending.TheVariants.{Finite, Endless}
+use Rattle.refusal.specs.declared.Fault.{Fault}
+use Rattle.std.proofs.Common.{Ok, Err, Result}
 use Rattle.judge.proofs.Turns.{from, turn_at, next_place, on_next, on_end}
+use Rattle.refusal.proofs.Names.{ok_one}
 use Rattle.loops.proofs.Values.{get_loop}
 use Rattle.totals.specs.Totals.{none_of, plus_of, times_of}
 use Rattle.totals.specs.declared.Totals.{Totals}
@@ -32,6 +32,7 @@ use Rattle.reckon.specs.declared.reckon.Reckoned.{Reckoned}
 use Rattle.reckon.specs.declared.walk.Sums.{Sums}
 use Rattle.reckon.proofs.Reckons.{stands_good}
 use Rattle.reckon.proofs.Wholes.{stride_at, looped_of, turn_of, Left, turn_keeps, left_none, left_all}
+use Rattle.loops.specs.declared.Turn.{Turn}
 
 -- what is reckoned, and behind an open loop what will be, makes up the whole with what is left
 abbrev pub Kept : List ℕ → Totals → Settings → Flow → Sums → Type 0
@@ -67,7 +68,7 @@ role_part Forever a = refl
 role_part Again a = refl
 
 -- a command that was read, reckoned
-pub summed_is : (b : List ℕ) (f : Flow) (s : Sums) (c : Command) → read_of b s.at.place ≡ Good c → (h : Reckoned) (x : Sums)
+pub summed_is : (b : List ℕ) (f : Flow) (s : Sums) (c : Command) → read_of b s.at.place ≡ Ok c → (h : Reckoned) (x : Sums)
     → h ≡ added_of (get b s.at.place) s.at
     → x ≡ taken_of b (role_of c.kind) f h s.entry s.before
     → x ≡ summed_of b (get b s.at.place) f s
@@ -80,8 +81,8 @@ summed_is b f s c e h x eh ex =
     ∙ ap (λ (q : Role). taken_of b q f (added_of (good part) s.at) s.entry s.before) (sym (role_part r (act_of b s.at.place c)))
     ∙ ap (λ (t : Tok). summed_of b t f s) (sym there)
 
-pub summed_none : (b : List ℕ) (f : Flow) (s : Sums) (n q : ℕ) → read_of b s.at.place ≡ Refused n q → s ≡ summed_of b (get b s.at.place) f s
-summed_none b f s n q e = sym (ap (λ (t : Tok). summed_of b t f s) (ap (tok_of b s.at.place) e))
+pub summed_none : (b : List ℕ) (f : Flow) (s : Sums) (w : Fault) → read_of b s.at.place ≡ Err w → s ≡ summed_of b (get b s.at.place) f s
+summed_none b f s w e = sym (ap (λ (t : Tok). summed_of b t f s) (ap (tok_of b s.at.place) e))
 
 -- the walk goes on behind the command
 pub summed_place : (b : List ℕ) (c : Part) (f : Flow) (s : Sums) → (summed_of b (good c) f s).at.place ≡ s.at.place + size_of c
@@ -93,6 +94,10 @@ summed_place b close Ended s = refl
 summed_place b forever f s = refl
 summed_place b again f s = refl
 
+-- how judging goes on behind a command
+flow_is : {p k : ℕ} {f g : Flow} → ◌≡◌ {A = Result Turn Fault} (Ok (go_on p f)) (Ok (go_on k g)) → f ≡ g
+flow_is e = ap (λ (t : Turn). t.flow) (ok_one e)
+
 module _ (b : List ℕ) (s : Sums) (k : ℕ) where
   -- no loop is open
   none_free : (f : Flow) (x : Sums) → f ≡ Free → Passing b f x
@@ -102,30 +107,32 @@ module _ (b : List ℕ) (s : Sums) (k : ℕ) where
   none_ended f x e = λ l w. let z : ◌≡◌ {A = ℕ} 0 1 = cc in absurd (omega arith)
 
   -- each command keeps the first pass of an open loop in step
-  pub passing_next : (t : Tok) (f g : Flow) → s.at.place < length b → get b s.at.place ≡ t → turn_at t s.at.place f ≡ Next k g → Passing b f s
+  pub passing_next : (t : Tok) (f g : Flow) → s.at.place < length b → get b s.at.place ≡ t → turn_at t s.at.place f ≡ Ok (go_on k g) → Passing b f s
       → Passing b g (summed_of b t f s)
   passing_next t Ended g h u e i = let z : ◌≡◌ {A = ℕ} 0 1 = cc in absurd (omega arith)
-  passing_next (bad n q) Free g h u e i = let z : ◌≡◌ {A = ℕ} 0 1 = cc in absurd (omega arith)
-  passing_next (bad n q) (Within m) g h u e i = let z : ◌≡◌ {A = ℕ} 0 1 = cc in absurd (omega arith)
-  passing_next (good (act a)) Free g h u e i = none_free g (summed_of b (good (act a)) Free s) cc
+  passing_next (bad w) Free g h u e i = let z : ◌≡◌ {A = ℕ} 0 1 = cc in absurd (omega arith)
+  passing_next (bad w) (Within m) g h u e i = let z : ◌≡◌ {A = ℕ} 0 1 = cc in absurd (omega arith)
+  passing_next (good (act a)) Free g h u e i = none_free g (summed_of b (good (act a)) Free s) (sym (flow_is e))
   passing_next (good (act a)) (Within m) g h u e i =
       λ l w.
+      let here : Within m ≡ g = flow_is e in
       let same : m ≡ l = cc in
       let was = i m refl in
       subst (λ (y : Open). (pass_of b (added_of (good (act a)) s.at) ≡ pass_of b (entry_of y s.entry)) × Counts y) same
       (sym (pass_act b s.at a h u) ∙ was.0, was.1)
   passing_next (good (rep n z)) Free g h u e i =
       λ l w.
+      let here : Within (opened s.at.place (rep n z)) ≡ g = flow_is e in
       let same : opened s.at.place (rep n z) ≡ l = cc in
       let counts = get_loop b s.at.place n z u in
       subst (λ (y : Open). (pass_of b (summed_of b (good (rep n z)) Free s).at ≡ pass_of b (entry_of y (summed_of b (good (rep n z)) Free s).entry)) × Counts y) same
       (refl, (counts.least, counts.most))
   passing_next (good (rep n z)) (Within m) g h u e i = let y : ◌≡◌ {A = ℕ} 0 1 = cc in absurd (omega arith)
   passing_next (good close) Free g h u e i = let z : ◌≡◌ {A = ℕ} 0 1 = cc in absurd (omega arith)
-  passing_next (good close) (Within m) g h u e i = none_free g (summed_of b (good close) (Within m) s) cc
+  passing_next (good close) (Within m) g h u e i = none_free g (summed_of b (good close) (Within m) s) (sym (flow_is e))
   passing_next (good forever) Free g h u e i = let z : ◌≡◌ {A = ℕ} 0 1 = cc in absurd (omega arith)
-  passing_next (good forever) (Within m) g h u e i = none_ended g (summed_of b (good forever) (Within m) s) cc
-  passing_next (good again) Free g h u e i = none_ended g (summed_of b (good again) Free s) cc
+  passing_next (good forever) (Within m) g h u e i = none_ended g (summed_of b (good forever) (Within m) s) (sym (flow_is e))
+  passing_next (good again) Free g h u e i = none_ended g (summed_of b (good again) Free s) (sym (flow_is e))
   passing_next (good again) (Within m) g h u e i = let z : ◌≡◌ {A = ℕ} 0 1 = cc in absurd (omega arith)
 
   module _ (whole : Totals) (last : Settings) where
@@ -134,49 +141,49 @@ module _ (b : List ℕ) (s : Sums) (k : ℕ) where
     free_next t h u i = subst (λ (x : Tok). Left b whole last (turn_of b x s.at)) u (turn_keeps b whole last s.at h i)
 
     -- each command keeps what is left in step with the whole
-    pub kept_next : (t : Tok) (f g : Flow) → s.at.place < length b → get b s.at.place ≡ t → turn_at t s.at.place f ≡ Next k g → Passing b f s
+    pub kept_next : (t : Tok) (f g : Flow) → s.at.place < length b → get b s.at.place ≡ t → turn_at t s.at.place f ≡ Ok (go_on k g) → Passing b f s
         → Kept b whole last f s
         → Kept b whole last g (summed_of b t f s)
     kept_next t Ended g h u e i j = let z : ◌≡◌ {A = ℕ} 0 1 = cc in absurd (omega arith)
-    kept_next (bad n q) Free g h u e i j = let z : ◌≡◌ {A = ℕ} 0 1 = cc in absurd (omega arith)
-    kept_next (bad n q) (Within m) g h u e i j = let z : ◌≡◌ {A = ℕ} 0 1 = cc in absurd (omega arith)
+    kept_next (bad w) Free g h u e i j = let z : ◌≡◌ {A = ℕ} 0 1 = cc in absurd (omega arith)
+    kept_next (bad w) (Within m) g h u e i j = let z : ◌≡◌ {A = ℕ} 0 1 = cc in absurd (omega arith)
     kept_next (good (act a)) Free g h u e i j =
-        let same : Free ≡ g = cc in
+        let same : Free ≡ g = flow_is e in
         subst (λ (y : Flow). Kept b whole last y (summed_of b (good (act a)) Free s)) same (free_next (good (act a)) h u j)
     kept_next (good (act a)) (Within m) g h u e i j =
-        let same : Within m ≡ g = cc in
+        let same : Within m ≡ g = flow_is e in
         subst (λ (y : Flow). Kept b whole last y (summed_of b (good (act a)) (Within m) s)) same j
     kept_next (good (rep n z)) Free g h u e i j =
-        let same : Within (opened s.at.place (rep n z)) ≡ g = cc in
+        let same : Within (opened s.at.place (rep n z)) ≡ g = flow_is e in
         subst (λ (y : Flow). Kept b whole last y (summed_of b (good (rep n z)) Free s)) same (free_next (good (rep n z)) h u j)
     kept_next (good (rep n z)) (Within m) g h u e i j = let y : ◌≡◌ {A = ℕ} 0 1 = cc in absurd (omega arith)
     kept_next (good close) Free g h u e i j = let z : ◌≡◌ {A = ℕ} 0 1 = cc in absurd (omega arith)
     kept_next (good close) (Within m) g h u e i j =
-        let same : Free ≡ g = cc in
+        let same : Free ≡ g = flow_is e in
         let first : pass_of b (entry_of m s.entry) ≡ added_of (good close) s.at = sym (i m refl).0 ∙ pass_close b s.at h u in
         subst (λ (y : Flow). Kept b whole last y (summed_of b (good close) (Within m) s)) same
         (subst (λ (x : Reckoned). Left b whole last (record { place = x.place; settings = x.settings; totals = closed_of b m x s.entry s.before })) first j)
     kept_next (good forever) Free g h u e i j = let z : ◌≡◌ {A = ℕ} 0 1 = cc in absurd (omega arith)
     kept_next (good forever) (Within m) g h u e i j =
-        let same : Ended ≡ g = cc in
+        let same : Ended ≡ g = flow_is e in
         subst (λ (y : Flow). Kept b whole last y (summed_of b (good forever) (Within m) s)) same refl
     kept_next (good again) Free g h u e i j =
-        let same : Ended ≡ g = cc in
+        let same : Ended ≡ g = flow_is e in
         subst (λ (y : Flow). Kept b whole last y (summed_of b (good again) Free s)) same refl
     kept_next (good again) (Within m) g h u e i j = let z : ◌≡◌ {A = ℕ} 0 1 = cc in absurd (omega arith)
 
 -- a round of the walk: where it stands, the verdict, the first pass of an open loop, and what is left
 abbrev pub Stands : List ℕ → Totals → Settings → ℕ → Flow → Sums → Type 0
 Stands b whole last p f s =
-    (p ≡ s.at.place) × ((from (tokens_of b p) p f ≡ commands_of b) × (Passing b f s × (judge_of b ≡ Finite → Kept b whole last f s)))
+    (p ≡ s.at.place) × ((from (tokens_of b p) p f ≡ commands_of b) × (Passing b f s × (judge_of b ≡ Ok Finite → Kept b whole last f s)))
 
-pub stands_next : (b : List ℕ) (whole : Totals) (last : Settings) (p k : ℕ) (f g : Flow) (s x : Sums) → p < length b → turn_at (get b p) p f ≡ Next k g
+pub stands_next : (b : List ℕ) (whole : Totals) (last : Settings) (p k : ℕ) (f g : Flow) (s x : Sums) → p < length b → turn_at (get b p) p f ≡ Ok (go_on k g)
     → x ≡ summed_of b (get b s.at.place) f s
     → Stands b whole last p f s
     → Stands b whole last k g x
 stands_next b whole last p k f g s x h e ex i =
     let q = s.at.place in
-    let there : turn_at (get b q) q f ≡ Next k g = subst (λ (y : ℕ). turn_at (get b y) y f ≡ Next k g) i.0 e in
+    let there : turn_at (get b q) q f ≡ Ok (go_on k g) = subst (λ (y : ℕ). turn_at (get b y) y f ≡ Ok (go_on k g)) i.0 e in
     let within : q < length b = subst (λ (y : ℕ). y < length b) i.0 h in
     let n = next_place (get b q) q k f g there in
     let place : k ≡ (summed_of b (get b q) f s).at.place =
@@ -192,12 +199,12 @@ stands_next b whole last p k f g s x h e ex i =
     )
 
 -- no totals and settings are told but those of a program that ends
-pub told_same : (v : Verdict) (t u : Totals) (σ τ : Settings) → (v ≡ Finite → (t ≡ u) × (σ ≡ τ)) → by_verdict v t σ ≡ by_verdict v u τ
-told_same Finite t u σ τ h = ap (λ (x : Totals). by_verdict Finite x σ) (h refl).0 ∙ ap (by_verdict Finite u) (h refl).1
-told_same Endless t u σ τ h = refl
-told_same (NoProgram n q) t u σ τ h = refl
+pub told_same : (v : Verdict) (t u : Totals) (σ τ : Settings) → (v ≡ Ok Finite → (t ≡ u) × (σ ≡ τ)) → by_verdict v t σ ≡ by_verdict v u τ
+told_same (Ok Finite) t u σ τ h = ap (λ (x : Totals). by_verdict (Ok Finite) x σ) (h refl).0 ∙ ap (by_verdict (Ok Finite) u) (h refl).1
+told_same (Ok Endless) t u σ τ h = refl
+told_same (Err w) t u σ τ h = refl
 
-kept_whole : (b : List ℕ) (whole : Totals) (last : Settings) (f : Flow) (s : Sums) → length b ≤ s.at.place → end_of (ended_of f) (opens_of f) ≡ Finite
+kept_whole : (b : List ℕ) (whole : Totals) (last : Settings) (f : Flow) (s : Sums) → length b ≤ s.at.place → end_of (ended_of f) (opens_of f) ≡ Ok Finite
     → Kept b whole last f s
     → (s.at.totals ≡ whole) × (s.at.settings ≡ last)
 kept_whole b whole last Free s h e i = left_none b whole last s.at h i

@@ -8,7 +8,8 @@ use Rattle.perform.specs.Price.{answer_of}
 use Rattle.perform.specs.declared.settings.Settings.{Settings}
 use Rattle.loops.specs.Token.{Part, act, rep, close, forever, again, Tok, good, bad, size_of, get, chain, tokens_of}
 use Rattle.judge.specs.Verdict.{judge_of}
-use Rattle.judge.specs.declared.Verdict.TheVariants.{Finite}
+use Rattle.judge.specs.declared.Ending.TheVariants.{Finite}
+use Rattle.std.proofs.Common.{Ok}
 use Rattle.loops.proofs.Tokens.{tokens_first}
 use Rattle.course.specs.Steps.{says_of, sets_of}
 use Rattle.course.specs.Tree.{Block, stop, one, loop, times, exit_of, flat, tree_in}
@@ -44,7 +45,7 @@ turn_of b (good (rep n z)) s = looped_of b n (added_of (good (rep n z)) s)
 turn_of b (good close) s = s
 turn_of b (good forever) s = s
 turn_of b (good again) s = s
-turn_of b (bad n q) s = s
+turn_of b (bad w) s = s
 
 -- what is reckoned behind a block
 abbrev behind_block : Block → Reckoned → Reckoned
@@ -179,10 +180,10 @@ module _ (b : List ℕ) (whole : Totals) (last : Settings) where
       go (loop n z body t) w e l = absurd (omega (arith, w.0))
 
 -- all of a program that comes to an end is left at its start
-pub left_all : (b : List ℕ) (σ : Settings) → judge_of b ≡ Finite
+pub left_all : (b : List ℕ) (σ : Settings) → judge_of b ≡ Ok Finite
     → Left b (prices_of (tree_in b).block σ) (exit_of (tree_in b).block σ) (record { place = 0; settings = σ; totals = none_of })
 left_all b σ e =
-    let p = program b Finite e tt in
+    let p = program b (Ok Finite) e tt in
     let t = (tree_in b).block in
     record {
       rest = t;

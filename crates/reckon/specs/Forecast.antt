@@ -1,16 +1,16 @@
 -- The forecast: the sums over the steps of a run, from its start until it is Ready, and the settings that it then has.
 -- Rules S22 to S26 for the sums, S32 for the settings, N17 before what judging refuses.
-use Rattle.std.specs.Prelude.{ℕ, zero, suc, ◌+◌, List, [], ◌∷◌, Bool, not, eqb, length}
+use Rattle.std.specs.Prelude.{ℕ, zero, suc, ◌+◌, List, [], ◌∷◌, Bool, not, eqb, length, Result, Ok, Err}
 use Rattle.basis.specs.Choice.{when, ◌and◌, within}
 use Rattle.basis.specs.Told.{Told, yes, no_at}
 use Rattle.units.specs.Units.{capped}
 use Rattle.perform.specs.declared.settings.Settings.{Settings}
 use Rattle.perform.specs.declared.price.Performed.{Performed}
 use Rattle.loops.specs.Flow.{ended_of, opens_of}
-use Rattle.judge.specs.Verdict.{end_of, judge_of}
+use Rattle.judge.specs.Verdict.{Verdict, end_of, judge_of}
 use Rattle.loops.specs.declared.Flow.{Flow}
-use Rattle.judge.specs.declared.Verdict.{Verdict}
-use Rattle.judge.specs.declared.Verdict.TheVariants.{Finite, Endless, Refused}
+use Rattle.judge.specs.declared.Ending.TheVariants.{Finite, Endless}
+use Rattle.refusal.specs.declared.Fault.{Fault}
 use Rattle.course.specs.Price.{ones, scans, millis, price_of}
 use Rattle.course.specs.Tree.{Block, exit_of, tree_in}
 use Rattle.room.specs.Room.{room_of}
@@ -20,8 +20,9 @@ use Rattle.machine.specs.declared.Answer.{Answer}
 use Rattle.machine.specs.declared.Answer.TheVariants.{Did, Idle, Refused as RefusedStep}
 use Rattle.machine.specs.declared.Run.{Run}
 use Rattle.reckon.specs.declared.reckon.Foretold.{Foretold}
-use Rattle.reckon.specs.declared.reckon.Foretold.TheVariants.{Ends, Endless as Never, Refused as RefusedForecast}
+use Rattle.reckon.specs.declared.reckon.Foretold.TheVariants.{Ends, Endless as Never}
 use Rattle.totals.specs.declared.Totals.{Totals}
+use Rattle.refusal.specs.Refusal.{number_of, fault}
 
 -- a measure of what a step answered
 abbrev pub measured : (Performed → ℕ) → Answer → ℕ
@@ -60,14 +61,14 @@ abbrev pub out_of_range : ℕ → ℕ → Bool
 out_of_range pace each = not (within 1 pace 20 and within 1 each 6)
 
 -- of a program that ends its totals are told, and the pace and the scans of the settings that it leaves
-abbrev pub by_verdict : Verdict → Totals → Settings → Foretold
-by_verdict Finite t σ = Ends t σ.pace σ.scans
-by_verdict Endless t σ = Never
-by_verdict (Refused n p) t σ = RefusedForecast n p
+abbrev pub by_verdict : Verdict → Totals → Settings → Result Foretold Fault
+by_verdict (Ok Finite) t σ = Ok (Ends t σ.pace σ.scans)
+by_verdict (Ok Endless) t σ = Ok Never
+by_verdict (Err w) t σ = Err w
 
-unfoldable pub forecast_of : List ℕ → ℕ → ℕ → Foretold
+unfoldable pub forecast_of : List ℕ → ℕ → ℕ → Result Foretold Fault
 forecast_of b pace each =
-    when (out_of_range pace each) (RefusedForecast 17 0)
+    when (out_of_range pace each) (Err (fault 17 0))
     (by_verdict (judge_of b) (tallies_of (room_of b) (started_of (length b) (settings_at pace each)))
     (settled_of (room_of b) (started_of (length b) (settings_at pace each))))
 
@@ -76,16 +77,16 @@ abbrev pub prices_of : Block → Settings → Totals
 prices_of t σ = totals_of (capped (price_of ones t σ)) (capped (price_of scans t σ)) (capped (price_of millis t σ))
 
 -- what is told of a body, by two readings of its loops
-abbrev pub walked_of : List ℕ → Settings → Foretold
+abbrev pub walked_of : List ℕ → Settings → Result Foretold Fault
 walked_of b σ = by_verdict (judge_of b) (prices_of (tree_in b).block σ) (exit_of (tree_in b).block σ)
 
 -- what is foretold where no command is left
-abbrev pub foretold_of : Flow → Totals → Settings → Foretold
+abbrev pub foretold_of : Flow → Totals → Settings → Result Foretold Fault
 foretold_of f t σ = by_verdict (end_of (ended_of f) (opens_of f)) t σ
 
 -- the forecast in the rules' numbers: 1 for an endless program, 0 for one that ends, and then its steps, scans and
 -- milliseconds, and the pace and the scans that it leaves
-abbrev pub told_of : Foretold → Told
-told_of (Ends t pace each) = yes (0 ∷ t.steps.0 ∷ t.scans.0 ∷ t.millis.0 ∷ pace ∷ each ∷ [])
-told_of Never = yes (1 ∷ 0 ∷ 0 ∷ 0 ∷ 0 ∷ 0 ∷ [])
-told_of (RefusedForecast n p) = no_at n p
+abbrev pub told_of : Result Foretold Fault → Told
+told_of (Ok (Ends t pace each)) = yes (0 ∷ t.steps.0 ∷ t.scans.0 ∷ t.millis.0 ∷ pace ∷ each ∷ [])
+told_of (Ok Never) = yes (1 ∷ 0 ∷ 0 ∷ 0 ∷ 0 ∷ 0 ∷ [])
+told_of (Err w) = no_at (number_of w.refusal) w.place

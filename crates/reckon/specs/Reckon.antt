@@ -32,7 +32,7 @@ added_of (good c) s =
       settings = sets_part c s.settings;
       totals = plus_of s.totals (cost_of (says_of c s.settings));
     }
-added_of (bad n q) s = s
+added_of (bad w) s = s
 
 -- a command that leaves the course of a program as it is
 abbrev pub plain_of : Role → Bool
@@ -50,7 +50,7 @@ stride_of (good (rep n z) ∷ ts) s = s
 stride_of (good close ∷ ts) s = s
 stride_of (good forever ∷ ts) s = s
 stride_of (good again ∷ ts) s = s
-stride_of (bad n q ∷ ts) s = s
+stride_of (bad w ∷ ts) s = s
 
 -- one pass of a loop from a place: its plain commands, and the `E` behind them
 abbrev pub pass_of : List ℕ → Reckoned → Reckoned
@@ -95,7 +95,7 @@ taken_of b Again f here σ before = record { at = here; entry = σ; before = bef
 -- a command reckoned, where judging stands so
 abbrev pub summed_of : List ℕ → Tok → Flow → Sums → Sums
 summed_of b (good c) f s = taken_of b (role_in c) f (added_of (good c) s.at) s.entry s.before
-summed_of b (bad n q) f s = s
+summed_of b (bad w) f s = s
 
 -- the number of a loop that a body can open
 abbrev pub Counts : Open → Type 0

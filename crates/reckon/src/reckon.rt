@@ -1,8 +1,7 @@
 // The forecast: rules S22 to S26 and S32, with each loop read twice at most (S27), and N17.
-ghost use Rattle.std.specs.Prelude.{◌≡◌, ◌≤◌, length, take, drop};
+ghost use Rattle.std.specs.Prelude.{◌≡◌, ◌≤◌, length, take, drop, Ok};
 ghost use Rattle.measure.specs.Width.{widths_of, counted_of};
 ghost use Rattle.program.specs.Command.{read_of};
-ghost use Rattle.program.specs.declared.Reading.TheVariants.{Good};
 ghost use Rattle.loops.specs.Token.{get};
 ghost use Rattle.loops.specs.Token.{role_of};
 ghost use Rattle.reckon.specs.Forecast.{forecast_of};
@@ -10,11 +9,12 @@ ghost use Rattle.reckon.specs.Reckon.{added_of, plain_of, pass_of, alike_of, lat
 
 use crate::Totals;
 use crate::walk::walk;
-use judge::{Opening, front};
+use judge::front;
 use loops::{Role, role_of};
 use measure::{Widths, measure_at};
 use perform::{Settings, perform};
-use program::{Command, Kind, Reading, read_command};
+use program::{Command, Kind, read_command};
+use refusal::{Fault, Refusal};
 
 // How far a program is reckoned: the place, the settings there, and the totals so far.
 #[derive(Clone, Copy)]
@@ -36,7 +36,7 @@ pub(crate) fn measured(body: &[u8], place: usize, len: usize) -> Widths
 
 // The command at the place, added.
 fn added(body: &[u8], command: Command, at: Reckoned) -> Reckoned
-    requires { (read_of body.now at.place ≡ Good command) × (length body.now ≤ 84) }
+    requires { (read_of body.now at.place ≡ Ok command) × (length body.now ≤ 84) }
     ensures { result ≡ added_of (get body.now at.place) at }
 {
     let kind = command.kind;
@@ -58,14 +58,7 @@ fn added(body: &[u8], command: Command, at: Reckoned) -> Reckoned
 fn plain(kind: Kind) -> bool
     ensures { result ≡ plain_of (role_of kind) }
 {
-    let role = role_of(kind);
-    match role {
-        Role::Plain => true,
-        Role::Repeat => false,
-        Role::Close => false,
-        Role::Forever => false,
-        Role::Again => false,
-    }
+    matches!(role_of(kind), Role::Plain)
 }
 
 // One pass of a loop: its plain commands from a place on, and the command behind them.
@@ -74,29 +67,20 @@ fn pass(body: &[u8], from: Reckoned) -> Reckoned
     ensures { result ≡ pass_of body.now from }
 {
     let mut at = from;
-    let mut place = at.place;
-    loop {
-        let read = read_command(body, place);
-        let Reading::Good(command) = read else {
-            return at;
-        };
+    while let Ok(command) = read_command(body, at.place) {
         at = added(body, command, at);
-        let kind = command.kind;
-        if !plain(kind) {
+        if !plain(command.kind) {
             return at;
         }
-        place = at.place;
     }
+    at
 }
 
 // Whether two settings agree in pace and scans per shift, which is all that a price goes by.
 fn alike(one: Settings, other: Settings) -> bool
     ensures { result ≡ alike_of one other }
 {
-    if one.pace == other.pace {
-        return one.scans == other.scans;
-    }
-    false
+    one.pace == other.pace && one.scans == other.scans
 }
 
 // What each later pass of a loop costs: as much as the first where that left pace and scans as they were, else it is read again.
@@ -115,43 +99,31 @@ pub(crate) fn later(body: &[u8], start: Reckoned, first: Reckoned) -> Totals
     again.totals
 }
 
-// What is told of a program beforehand: the totals until it is Ready, and the pace and the scans that it leaves; that it never is; or
-// the refusal and its place.
+// What is told of a program beforehand: the totals until it is Ready, and the pace and the scans that it leaves; or that it never is.
 #[derive(Clone, Copy)]
 pub enum Foretold {
-    Ends(Totals, u8, u8),
+    Ends { totals: Totals, pace: u8, scans: u8 },
     Endless,
-    Refused(u8, usize),
 }
 
-// How long a body will run when it is started at this pace and this many scans a shift, and what it leaves of both.
-pub fn forecast(body: &[u8], pace: u8, scans: u8) -> Foretold
+// How long a body will run when it is started at this pace and this many scans a shift, and what it leaves of both; or why it is refused,
+// and where.
+pub fn forecast(body: &[u8], pace: u8, scans: u8) -> Result<Foretold, Fault>
     ensures { result ≡ forecast_of body.now pace scans }
 {
-    if pace < 1 {
-        return Foretold::Refused(17, 0);
+    if pace < 1 || 20 < pace || scans < 1 || 6 < scans {
+        return Err(Fault {
+            refusal: Refusal::WrongStart,
+            place: 0,
+        });
     }
-    if 20 < pace {
-        return Foretold::Refused(17, 0);
-    }
-    if scans < 1 {
-        return Foretold::Refused(17, 0);
-    }
-    if 6 < scans {
-        return Foretold::Refused(17, 0);
-    }
-    let opening = front(body);
-    match opening {
-        Opening::Refused(n, place) => Foretold::Refused(n, place),
-        Opening::Begun => {
-            let settings = Settings {
-                pace,
-                scans,
-                sink: 0,
-                dim: 16,
-                bright: 0,
-            };
-            walk(body, settings)
-        }
-    }
+    front(body)?;
+    let settings = Settings {
+        pace,
+        scans,
+        sink: 0,
+        dim: 16,
+        bright: 0,
+    };
+    walk(body, settings)
 }

@@ -3,18 +3,18 @@
 ghost use Rattle.std.specs.Prelude.{◌≡◌, ◌≤◌, length};
 ghost use Rattle.program.specs.Command.{read_of};
 ghost use Rattle.loops.specs.Token.{role_of, get};
-ghost use Rattle.judge.specs.Verdict.{front_of};
+ghost use Rattle.judge.specs.Verdict.{begun, front_of};
 ghost use Rattle.loops.specs.declared.Flow.TheVariants.{Within};
-ghost use Rattle.judge.specs.declared.Opening.TheVariants.{Begun};
 ghost use Rattle.loops.specs.declared.Role.TheVariants.{Close};
 ghost use Rattle.reckon.specs.Forecast.{foretold_of, walked_of};
 ghost use Rattle.reckon.specs.Reckon.{closed_of, closes_of, taken_of, summed_of, Passed, Passing};
 
 use crate::reckon::{Reckoned, later, measured};
 use crate::{Foretold, Totals};
-use loops::{Flow, Open, Role, Turn, role_of, turned};
+use loops::{Flow, Open, Role, role_of, turned};
 use perform::{Settings, perform};
-use program::{Kind, Reading, read_command};
+use program::{Command, Kind, read_command};
+use refusal::{Fault, Refusal};
 
 // How far a walk has come: what is reckoned since the last `L` or the start, the settings behind that `L`, and the totals up to it.
 #[derive(Clone, Copy)]
@@ -46,12 +46,7 @@ fn closes(body: &[u8], flow: Flow, here: Reckoned, entry: Settings, before: Tota
     ensures { result ≡ closes_of body.now flow here entry before }
 {
     match flow {
-        Flow::Free => Sums {
-            at: here,
-            entry,
-            before,
-        },
-        Flow::Ended => Sums {
+        Flow::Free | Flow::Ended => Sums {
             at: here,
             entry,
             before,
@@ -80,47 +75,31 @@ fn taken(
     requires { (length body.now ≤ 84) × (role_of kind ≡ Close → Passed body.now flow here entry) }
     ensures { result ≡ taken_of body.now (role_of kind) flow here entry before }
 {
-    let role = role_of(kind);
-    match role {
-        Role::Plain => Sums {
+    match role_of(kind) {
+        Role::Plain | Role::Forever | Role::Again => Sums {
             at: here,
             entry,
             before,
         },
-        Role::Repeat => {
-            let settings = here.settings;
-            let totals = here.totals;
-            let at = Reckoned {
+        Role::Repeat => Sums {
+            at: Reckoned {
                 place: here.place,
-                settings,
+                settings: here.settings,
                 totals: Totals::none(),
-            };
-            Sums {
-                at,
-                entry: settings,
-                before: totals,
-            }
-        }
+            },
+            entry: here.settings,
+            before: here.totals,
+        },
         Role::Close => closes(body, flow, here, entry, before),
-        Role::Forever => Sums {
-            at: here,
-            entry,
-            before,
-        },
-        Role::Again => Sums {
-            at: here,
-            entry,
-            before,
-        },
     }
 }
 
 // One command reckoned, where judging stands so.
-fn summed(body: &[u8], read: Reading, flow: Flow, sums: Sums) -> Sums
+fn summed(body: &[u8], read: Result<Command, Fault>, flow: Flow, sums: Sums) -> Sums
     requires { (length body.now ≤ 84) × ((read ≡ read_of body.now sums.at.place) × Passing body.now flow sums) }
     ensures { result ≡ summed_of body.now (get body.now sums.at.place) flow sums }
 {
-    let Reading::Good(command) = read else {
+    let Ok(command) = read else {
         return sums;
     };
     let at = sums.at;
@@ -143,22 +122,29 @@ fn summed(body: &[u8], read: Reading, flow: Flow, sums: Sums) -> Sums
 }
 
 // What is told where no command is left.
-fn told(flow: Flow, sums: Sums) -> Foretold
+fn told(flow: Flow, sums: Sums) -> Result<Foretold, Fault>
     ensures { result ≡ foretold_of flow sums.at.totals sums.at.settings }
 {
     let at = sums.at;
     let totals = at.totals;
     let left = at.settings;
     match flow {
-        Flow::Free => Foretold::Ends(totals, left.pace, left.scans),
-        Flow::Ended => Foretold::Endless,
-        Flow::Within(open) => Foretold::Refused(26, open.caret),
+        Flow::Free => Ok(Foretold::Ends {
+            totals,
+            pace: left.pace,
+            scans: left.scans,
+        }),
+        Flow::Ended => Ok(Foretold::Endless),
+        Flow::Within(open) => Err(Fault {
+            refusal: Refusal::WrongLoop,
+            place: open.caret,
+        }),
     }
 }
 
 // What is told of a body's commands, started at these settings.
-pub(crate) fn walk(body: &[u8], settings: Settings) -> Foretold
-    requires { front_of body.now ≡ Begun }
+pub(crate) fn walk(body: &[u8], settings: Settings) -> Result<Foretold, Fault>
+    requires { front_of body.now ≡ begun }
     ensures { result ≡ walked_of body.now settings }
 {
     let mut place: usize = 0;
@@ -175,15 +161,10 @@ pub(crate) fn walk(body: &[u8], settings: Settings) -> Foretold
     };
     while place < body.len() {
         let read = read_command(body, place);
-        let said = turned(read, place, flow);
-        match said {
-            Turn::Stop(n, wrong) => return Foretold::Refused(n, wrong),
-            Turn::Next(next, then) => {
-                sums = summed(body, read, flow, sums);
-                place = next;
-                flow = then;
-            }
-        }
+        let turn = turned(read, place, flow)?;
+        sums = summed(body, read, flow, sums);
+        place = turn.next;
+        flow = turn.flow;
     }
     told(flow, sums)
 }

@@ -1,5 +1,6 @@
 -- `forecast` refuses a setting out of range, then goes by the body's front, and tells what the walk over its commands does.
-use mathlib.Core.Path.{sym, refl, ◌∙◌}
+use mathlib.Core.Path.{sym, ap, refl, ◌∙◌}
+use Rattle.std.proofs.lemmas.Result.{err_from_is_err_and}
 use Rattle.basis.proofs.Tests.{tests}
 use Rattle.judge.specs.Verdict.{judge_of}
 use Rattle.judge.proofs.Turns.{front_judged}
@@ -8,35 +9,32 @@ use Rattle.reckon.proofs.Forecasts.{in_range, settings_sound_lem, tallies_price,
 use Rattle.reckon.proofs.Walks.{told_same}
 use borrow.Author.Rules.{rules}
 use Rattle.reckon.proofs.reckon.forecast.Goals as goal
+use Rattle.reckon.proofs.reckon.forecast.Goals.{then-pace-lt1-via-then-pace-lt1, then-pace-lt1-via-else-pace-lt1+then-pace-gt20, then-pace-lt1-via-else-pace-lt1+else-pace-gt20+then-scans-lt1, then-pace-lt1-via-else-pace-lt1+else-pace-gt20+else-scans-lt1+then-scans-gt6}
+use Rattle.std.proofs.Common.{Err}
 
 pub returns-then-pace-lt1 : goal.returns-then-pace-lt1
 unfolding forecast_of
-returns-then-pace-lt1 c = search tests
-
-pub returns-then-pace-gt20 : goal.returns-then-pace-gt20
-unfolding forecast_of
-returns-then-pace-gt20 c = search tests
-
-pub returns-then-scans-lt1 : goal.returns-then-scans-lt1
-unfolding forecast_of
-returns-then-scans-lt1 c = search tests
-
-pub returns-then-scans-gt6 : goal.returns-then-scans-gt6
-unfolding forecast_of
-returns-then-scans-gt6 c = search tests
+returns-then-pace-lt1 c =
+    elim c.then-pace-lt1.branch [
+      | then-pace-lt1-via-then-pace-lt1 w ↦ search tests
+      | then-pace-lt1-via-else-pace-lt1+then-pace-gt20 w ↦ search tests
+      | then-pace-lt1-via-else-pace-lt1+else-pace-gt20+then-scans-lt1 w ↦ search tests
+      | then-pace-lt1-via-else-pace-lt1+else-pace-gt20+else-scans-lt1+then-scans-gt6 w ↦ search tests
+    ]
 
 pub walk-requires : goal.walk-requires
-walk-requires c = sym c.front-opening.ensures ∙ c.in-Begun.is
+walk-requires c = sym c.in_ok-front.ensures
 
-pub returns-in-Refused : goal.returns-in-Refused
-returns-in-Refused c =
+pub returns-in_err-front : goal.returns-in_err-front
+returns-in_err-front c =
     let a = c.args in
     let b = a.body.now in
-    let e = front_judged b _ _ (sym c.front-opening.ensures ∙ c.in-Refused.is) in
-    sym (in_range b a.pace a.scans (search rules) (search rules) (search rules) (search rules) _ e)
+    let e = front_judged b _ (sym c.in_err-front.ensures) in
+    let p = err_from_is_err_and c.from_residual.result c.from_residual.ensures.1 in
+    p.1 ∙ ap Err p.2 ∙ sym (in_range b a.pace a.scans (search rules) (search rules) (search rules) (search rules) _ e)
 
-pub returns-in-Begun : goal.returns-in-Begun
-returns-in-Begun c =
+pub returns : goal.returns
+returns c =
     let a = c.args in
     let b = a.body.now in
     let set = settings_sound_lem b a.pace a.scans (search rules) (search rules) (search rules) (search rules) in

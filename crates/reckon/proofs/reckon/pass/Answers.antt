@@ -1,7 +1,6 @@
 use Prim.Native.Nat.{◌+◌}
 use mathlib.Core.Path.{◌≡◌, refl, sym, ap, ◌∙◌}
 use native.Mathlib.Omega.{arith}
-use Rattle.program.specs.Command.{read_of}
 use Rattle.program.proofs.Laws.{starts_within}
 use Rattle.loops.specs.Token.{role_of, Tok, size_of, part_of, act_of}
 use Rattle.loops.proofs.Tokens.{get_two}
@@ -11,37 +10,37 @@ use Rattle.reckon.proofs.Reckons.{stands_good, pass_ends, pass_stops, pass_goes}
 use Rattle.reckon.proofs.reckon.pass.Goals as goal
 
 pub loop-command-init : goal.loop-command-init
-loop-command-init c = (refl, refl)
+loop-command-init c = refl
 
-pub returns-in_default : goal.returns-in_default
-returns-in_default c =
+pub returns : goal.returns
+returns c =
     let b = c.args.body.now in
     let l = c.loop-command in
-    let e = ap (read_of b) (sym l.invariant.0) ∙ sym c.read_command-read.ensures ∙ c.in_default.is in
-    sym (pass_ends b l.at _ _ e) ∙ l.invariant.1
+    let e = sym c.read_command.ensures ∙ c.in_default.is in
+    sym (pass_ends b l.at _ e) ∙ l.invariant
 
 pub added-at-requires : goal.added-at-requires
 added-at-requires c =
     let b = c.args.body.now in
     let l = c.loop-command in
-    let d = c.in-Good.command in
-    let e = ap (read_of b) (sym l.invariant.0) ∙ sym c.read_command-read.ensures ∙ c.in-Good.is in
+    let d = c.in-Ok.command in
+    let e = sym c.read_command.ensures ∙ c.in-Ok.is in
     (e, c.requires)
 
 pub returns-then-not-plain : goal.returns-then-not-plain
 returns-then-not-plain c =
     let b = c.args.body.now in
     let l = c.loop-command in
-    let d = c.in-Good.command in
-    let e = ap (read_of b) (sym l.invariant.0) ∙ sym c.read_command-read.ensures ∙ c.in-Good.is in
-    c.added-at.ensures ∙ sym (pass_stops b l.at d e (sym c.plain.ensures ∙ c.if-not-plain.true)) ∙ l.invariant.1
+    let d = c.in-Ok.command in
+    let e = sym c.read_command.ensures ∙ c.in-Ok.is in
+    c.added-at.ensures ∙ sym (pass_stops b l.at d e (sym c.plain.ensures ∙ c.if-not-plain.true)) ∙ l.invariant
 
 pub loop-command-smaller : goal.loop-command-smaller
 loop-command-smaller c =
     let b = c.args.body.now in
     let l = c.loop-command in
-    let d = c.in-Good.command in
-    let e = ap (read_of b) (sym l.invariant.0) ∙ sym c.read_command-read.ensures ∙ c.in-Good.is in
+    let d = c.in-Ok.command in
+    let e = sym c.read_command.ensures ∙ c.in-Ok.is in
     let there = stands_good b l.at.place d e in
     let next : c.added-at.result.place ≡ l.at.place + size_of (part_of (role_of d.kind) (act_of b l.at.place d)) =
     ap (λ (x : Reckoned). x.place) c.added-at.ensures ∙ ap (λ (t : Tok). (added_of t l.at).place) there in
@@ -53,6 +52,6 @@ pub loop-command-preserved : goal.loop-command-preserved
 loop-command-preserved c =
     let b = c.args.body.now in
     let l = c.loop-command in
-    let d = c.in-Good.command in
-    let e = ap (read_of b) (sym l.invariant.0) ∙ sym c.read_command-read.ensures ∙ c.in-Good.is in
-    (refl, ap (pass_of b) c.added-at.ensures ∙ sym (pass_goes b l.at d e (sym c.plain.ensures ∙ c.if-not-plain.false)) ∙ l.invariant.1)
+    let d = c.in-Ok.command in
+    let e = sym c.read_command.ensures ∙ c.in-Ok.is in
+    ap (pass_of b) c.added-at.ensures ∙ sym (pass_goes b l.at d e (sym c.plain.ensures ∙ c.if-not-plain.false)) ∙ l.invariant

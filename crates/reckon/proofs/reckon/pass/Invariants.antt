@@ -6,7 +6,7 @@ use Rattle.reckon.specs.Reckon.{pass_of}
 use Rattle.reckon.proofs.reckon.pass.Given as goal
 
 abbrev pub invariant-loop-command : goal.invariant-loop-command
-invariant-loop-command l = (l.place ≡ l.at.place) × (pass_of l.body l.at ≡ pass_of l.body l.initial.at)
+invariant-loop-command l = pass_of l.body l.at ≡ pass_of l.body l.initial.at
 
 abbrev pub decreases-loop-command : goal.decreases-loop-command
-decreases-loop-command l = length l.body - l.place
+decreases-loop-command l = length l.body - l.at.place

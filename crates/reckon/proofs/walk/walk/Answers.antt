@@ -1,9 +1,12 @@
 use mathlib.Core.Path.{sym, ap, ◌∙◌}
 use native.Mathlib.Omega.{arith}
 use Rattle.program.specs.Command.{read_of}
-use Rattle.program.specs.declared.Reading.{Reading}
+use Rattle.program.specs.declared.Command.{Command}
+use Rattle.refusal.specs.declared.Fault.{Fault}
+use Rattle.std.proofs.Common.{Result, Err}
 use Rattle.loops.specs.Flow.{turned_of}
-use Rattle.judge.specs.declared.Verdict.{Verdict}
+use Rattle.judge.specs.Verdict.{Verdict}
+use Rattle.std.proofs.lemmas.Result.{err_from_is_err_and}
 use Rattle.loops.proofs.Moves.{turned_is}
 use Rattle.judge.proofs.Turns.{place_grows, on_stop, begun_front}
 use Rattle.course.specs.Tree.{exit_of, tree_in}
@@ -14,13 +17,15 @@ use Rattle.reckon.proofs.walk.walk.Goals as goal
 pub loop-place-init : goal.loop-place-init
 loop-place-init c = stands_first c.args.body.now c.args.settings c.none.result c.none-2.result c.none.ensures
 
-pub returns-in-Stop : goal.returns-in-Stop
-returns-in-Stop c =
+pub returns-in_err-turn : goal.returns-in_err-turn
+returns-in_err-turn c =
     let b = c.args.body.now in
     let l = c.loop-place in
     let σ = c.args.settings in
-    let e = sym (turned_is b l.place l.flow) ∙ ap (λ (r : Reading). turned_of r l.place l.flow) (sym c.read_command-read.ensures) ∙ sym c.turned-said.ensures ∙ c.in-Stop.is in
-    ap (λ (v : Verdict). by_verdict v (prices_of (tree_in b).block σ) (exit_of (tree_in b).block σ)) (sym (on_stop b l.place _ _ l.flow c.loop-place-test.true e) ∙ l.invariant.1.0 ∙ sym (begun_front b c.requires).0)
+    let e = sym (turned_is b l.place l.flow) ∙ ap (λ (r : Result Command Fault). turned_of r l.place l.flow) (sym c.read_command-read.ensures) ∙ sym c.in_err-turn.ensures in
+    let p = err_from_is_err_and c.from_residual.result c.from_residual.ensures.1 in
+    p.1 ∙ ap Err p.2
+    ∙ ap (λ (v : Verdict). by_verdict v (prices_of (tree_in b).block σ) (exit_of (tree_in b).block σ)) (sym (on_stop b l.place _ l.flow c.loop-place-test.true e) ∙ l.invariant.1.0 ∙ sym (begun_front b c.requires).0)
 
 pub summed-sums-requires : goal.summed-sums-requires
 summed-sums-requires c =
@@ -32,8 +37,8 @@ pub loop-place-smaller : goal.loop-place-smaller
 loop-place-smaller c =
     let b = c.args.body.now in
     let l = c.loop-place in
-    let e = sym (turned_is b l.place l.flow) ∙ ap (λ (r : Reading). turned_of r l.place l.flow) (sym c.read_command-read.ensures) ∙ sym c.turned-said.ensures ∙ c.in-Next.is in
-    let g = place_grows b l.place _ l.flow _ e in
+    let e = sym (turned_is b l.place l.flow) ∙ ap (λ (r : Result Command Fault). turned_of r l.place l.flow) (sym c.read_command-read.ensures) ∙ sym c.in_ok-turn.ensures in
+    let g = place_grows b l.place c.in_ok-turn.turn.next l.flow c.in_ok-turn.turn.flow e in
     let h = c.loop-place-test.true in
     omega arith
 
@@ -41,8 +46,8 @@ pub loop-place-preserved : goal.loop-place-preserved
 loop-place-preserved c =
     let b = c.args.body.now in
     let l = c.loop-place in
-    let e = sym (turned_is b l.place l.flow) ∙ ap (λ (r : Reading). turned_of r l.place l.flow) (sym c.read_command-read.ensures) ∙ sym c.turned-said.ensures ∙ c.in-Next.is in
-    stands_next b _ _ l.place _ l.flow _ l.sums c.summed-sums.result c.loop-place-test.true e c.summed-sums.ensures l.invariant
+    let e = sym (turned_is b l.place l.flow) ∙ ap (λ (r : Result Command Fault). turned_of r l.place l.flow) (sym c.read_command-read.ensures) ∙ sym c.in_ok-turn.ensures in
+    stands_next b _ _ l.place c.in_ok-turn.turn.next l.flow c.in_ok-turn.turn.flow l.sums c.summed-sums.result c.loop-place-test.true e c.summed-sums.ensures l.invariant
 
 pub returns : goal.returns
 returns c =

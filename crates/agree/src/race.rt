@@ -52,10 +52,14 @@ fn agrees(body: &[u8], pace: u8, scans: u8) -> bool {
     }
     let ran = ran(body.len(), &room, set(pace, scans));
     match reckon::forecast(body, pace, scans) {
-        Foretold::Ends(totals, last_pace, last_scans) => {
-            ran == Some((totals, last_pace, last_scans))
-        }
-        Foretold::Endless | Foretold::Refused(_, _) => ran.is_none(),
+        Ok(
+            Foretold::Ends {
+                totals,
+                pace,
+                scans,
+            },
+        ) => ran == Some((totals, pace, scans)),
+        Ok(Foretold::Endless) | Err(_) => ran.is_none(),
     }
 }
 

@@ -5,11 +5,11 @@ use std::io;
 // A body at pace 4 and one scan: what is foretold of it.
 pub(crate) fn forecast(rt: &impl Print, body: &str) -> io::Result<()> {
     match reckon::forecast(body.as_bytes(), 4, 1) {
-        Foretold::Ends(totals, _, _) => {
+        Ok(Foretold::Ends { totals, .. }) => {
             let (steps, scans, millis) = (totals.steps.0, totals.scans.0, totals.millis.0);
             println!(rt; "{body}: steps {steps} scans {scans} ms {millis}")
         }
-        Foretold::Endless => println!(rt; "{body}: never"),
-        Foretold::Refused(n, place) => println!(rt; "{body}: refused {n} at {place}"),
+        Ok(Foretold::Endless) => println!(rt; "{body}: never"),
+        Err(fault) => println!(rt; "{body}: {fault}"),
     }
 }

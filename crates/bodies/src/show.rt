@@ -1,6 +1,6 @@
 // One line for each thing tried: the bytes, then the answer in words.
-use judge::{Standing, Verdict};
-use program::{Command, Reading};
+use judge::{Ending, Standing};
+use program::Command;
 use std::{fmt, io};
 
 // Bytes in print: one that can't be printed as two hexadecimal digits between < and >.
@@ -23,9 +23,9 @@ impl fmt::Display for Bytes<'_> {
 pub(crate) fn judged(rt: &impl Print, body: &[u8]) -> io::Result<()> {
     let bytes = Bytes(body);
     match judge::judge(body) {
-        Verdict::Finite => println!(rt; "{bytes}: finite"),
-        Verdict::Endless => println!(rt; "{bytes}: endless"),
-        Verdict::Refused(n, at) => println!(rt; "{bytes}: refused {n} at {at}"),
+        Ok(Ending::Finite) => println!(rt; "{bytes}: finite"),
+        Ok(Ending::Endless) => println!(rt; "{bytes}: endless"),
+        Err(fault) => println!(rt; "{bytes}: {fault}"),
     }
 }
 
@@ -49,7 +49,7 @@ pub(crate) fn measured(rt: &impl Print, text: &[u8]) -> io::Result<()> {
 pub(crate) fn read(rt: &impl Print, body: &[u8], place: usize) -> io::Result<()> {
     let bytes = Bytes(body);
     match program::read_command(body, place) {
-        Reading::Good(
+        Ok(
             Command {
                 kind,
                 number,
@@ -58,7 +58,7 @@ pub(crate) fn read(rt: &impl Print, body: &[u8], place: usize) -> io::Result<()>
                 next,
             },
         ) => { println!(rt; "{bytes} at {place}: {kind} {number} {text} {len} {next}") }
-        Reading::Refused(n, at) => println!(rt; "{bytes} at {place}: refused {n} at {at}"),
+        Err(fault) => println!(rt; "{bytes} at {place}: {fault}"),
     }
 }
 

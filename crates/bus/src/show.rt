@@ -1,7 +1,7 @@
 // One line for each thing done: the answer in words.
 use hear::Outcome;
 use input::digit;
-use judge::Verdict;
+use judge::Ending;
 use machine::Answer;
 use packet::Written;
 use repeater::repeat;
@@ -20,11 +20,9 @@ fn outcome(rt: &impl Print, what: Outcome) -> io::Result<()> {
         Outcome::Reset => print!(rt; "reset"),
         Outcome::Repeat => print!(rt; "repeat"),
         Outcome::Stored => print!(rt; "stored"),
-        Outcome::Released(Verdict::Finite) => print!(rt; "released finite "),
-        Outcome::Released(Verdict::Endless) => print!(rt; "released endless "),
-        Outcome::Released(Verdict::Refused(n, place)) => {
-            print!(rt; "released refused {n} at {place} ")
-        }
+        Outcome::Released(Ok(Ending::Finite)) => print!(rt; "released finite "),
+        Outcome::Released(Ok(Ending::Endless)) => print!(rt; "released endless "),
+        Outcome::Released(Err(fault)) => print!(rt; "released {fault} "),
         Outcome::Refused(n) => print!(rt; "refused {n}"),
     }
 }

@@ -10,14 +10,14 @@ const STDIN: i32 = 0;
 // What is foretold of a body, the totals one to a line.
 fn tell(rt: &impl Print, body: &[u8]) -> std::io::Result<()> {
     match reckon::forecast(body, 4, 1) {
-        Foretold::Ends(totals, _, _) => {
+        Ok(Foretold::Ends { totals, .. }) => {
             println!(rt; "steps {}", totals.steps.0)?;
             println!(rt; "scans {}", totals.scans.0)?;
             println!(rt; "ms {}", totals.millis.0)?;
             println!(rt; "end ready")
         }
-        Foretold::Endless => println!(rt; "end never"),
-        Foretold::Refused(n, place) => println!(rt; "refused {n} at {place}"),
+        Ok(Foretold::Endless) => println!(rt; "end never"),
+        Err(fault) => println!(rt; "{fault}"),
     }
 }
 

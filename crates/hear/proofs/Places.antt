@@ -13,8 +13,7 @@ use Rattle.basis.specs.Bytes.{laid}
 use Rattle.basis.specs.Choice.{when, ◌or◌}
 use Rattle.basis.proofs.Choices.{when_true, when_false}
 use Rattle.basis.proofs.Laid.{take_laid}
-use Rattle.judge.specs.Verdict.{judge_of}
-use Rattle.judge.specs.declared.Verdict.{Verdict}
+use Rattle.judge.specs.Verdict.{Verdict, judge_of}
 use Rattle.room.specs.Room.{room_of}
 use Rattle.completed.specs.Completed.{added_of}
 use Rattle.completed.specs.declared.Completed.{Completed}

@@ -13,7 +13,8 @@ use Rattle.perform.specs.Price.{answer_of}
 use Rattle.perform.specs.Settings.{sound_of}
 use Rattle.perform.specs.declared.settings.Settings.{Settings}
 use Rattle.judge.specs.Verdict.{judge_of}
-use Rattle.judge.specs.declared.Verdict.TheVariants.{Finite}
+use Rattle.judge.specs.declared.Ending.TheVariants.{Finite}
+use Rattle.std.proofs.Common.{Ok}
 use Rattle.course.specs.Price.{sum_by, scans, millis}
 use Rattle.course.specs.Tree.{tree_in, exit_of}
 use Rattle.machine.specs.Line.{line_of}
@@ -30,10 +31,10 @@ use Rattle.promises.specs.Bench.{All, starred, w5, l3w2e, shi, s, slow, edge}
 abbrev at4 : Settings
 at4 = settings_at 4 1
 
-foretold : (b : List ℕ) → judge_of b ≡ Finite → sound_of at4 ≡ true
+foretold : (b : List ℕ) → judge_of b ≡ Ok Finite → sound_of at4 ≡ true
     → forecast_of b 4 1
-    ≡ Ends (totals_of (length (line_of b at4)) (sum_by scans (line_of b at4)) (sum_by millis (line_of b at4))) (exit_of (tree_in b).block at4).pace
-    (exit_of (tree_in b).block at4).scans
+    ≡ Ok (Ends (totals_of (length (line_of b at4)) (sum_by scans (line_of b at4)) (sum_by millis (line_of b at4))) (exit_of (tree_in b).block at4).pace
+    (exit_of (tree_in b).block at4).scans)
 foretold b e set = forecast_holds b at4 set e
 
 pub all_starred : All starred

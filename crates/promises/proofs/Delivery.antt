@@ -188,8 +188,8 @@ module _ (s : Sign) (good : Good s) (mid id : ℕ) (body out : List ℕ) (w : Wr
         none = ap (λ (t : Sign). t.slots) all_behind ∙ d.none final last_is;
         holds = λ endless e. ap (λ (t : Sign). t.room) all_behind ∙ d.holds final last_is endless e;
         runs = λ endless e. ap (λ (t : Sign). t.run) all_behind ∙ d.runs final last_is endless e;
-        empty = λ n place e. ap (λ (t : Sign). t.room) all_behind ∙ d.empty final last_is n place e;
-        rests = λ n place e. ap (λ (t : Sign). t.run) all_behind ∙ d.rests final last_is n place e;
+        empty = λ w e. ap (λ (t : Sign). t.room) all_behind ∙ d.empty final last_is w e;
+        rests = λ w e. ap (λ (t : Sign). t.run) all_behind ∙ d.rests final last_is w e;
         repeats = λ p below. copy_is mid id body out w (behind ours s mid found (total_of body)) behind_good behind_has p below;
       }
 

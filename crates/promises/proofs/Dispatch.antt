@@ -11,7 +11,9 @@ use Rattle.perform.specs.Settings.{sound_of as settings_sound}
 use Rattle.perform.specs.declared.settings.Settings.{Settings}
 use Rattle.perform.specs.declared.price.Performed.{Performed}
 use Rattle.judge.specs.Verdict.{judge_of}
-use Rattle.judge.specs.declared.Verdict.TheVariants.{Finite, Endless}
+use Rattle.judge.specs.declared.Ending.TheVariants.{Finite, Endless}
+use Rattle.program.specs.Table.{known}
+use Rattle.std.proofs.Common.{Ok}
 use Rattle.grammar.specs.Grammar.{accepted_as}
 use Rattle.course.specs.Price.{sum_by, scans, millis}
 use Rattle.course.specs.Tree.{tree_in, exit_of}
@@ -83,7 +85,7 @@ module _ (s : Sign) (good : Good s) (mid id : ℕ) (body out : List ℕ) (endles
   copied : (x : Sign) → Good x → x.completed ≡ t.completed → (p : ℕ) → p < total_of body → Repeated ours x mid (packet_in found p)
   copied x g e p below = copy_is mid id body out w x g (ap (λ (d : Completed). has_of d id) e ∙ behind_has s good mid id body out w awaits) p below
 
-module _ (s : Sign) (good : Good s) (mid id : ℕ) (body out : List ℕ) (e : judge_of body ≡ Finite) (w : Written mid id body out) (awaits : Awaits s id) where
+module _ (s : Sign) (good : Good s) (mid id : ℕ) (body out : List ℕ) (e : judge_of body ≡ Ok Finite) (w : Written mid id body out) (awaits : Awaits s id) where
   abbrev line : List Performed
   line = line_of body s.run.settings
 
@@ -101,7 +103,7 @@ module _ (s : Sign) (good : Good s) (mid id : ℕ) (body out : List ℕ) (e : ju
   legal = set s good mid id body out false e w awaits
 
   told : ours.forecast body s.run.settings.pace s.run.settings.scans
-      ≡ forecast_told (Ends (totals_of (length line) (sum_by scans line) (sum_by millis line)) left.pace left.scans)
+      ≡ forecast_told (Ok (Ends (totals_of (length line) (sum_by scans line) (sum_by millis line)) left.pace left.scans))
   told = ours_runs.foretold body s.run.settings legal e
 
   steps : value_at 1 (ours.forecast body s.run.settings.pace s.run.settings.scans) ≡ length line
@@ -140,7 +142,7 @@ module _ (s : Sign) (good : Good s) (mid id : ℕ) (body out : List ℕ) (e : ju
             (copied s good mid id body out false e w awaits x g completed p below);
       }
 
-module _ (s : Sign) (good : Good s) (mid id : ℕ) (body out : List ℕ) (e : judge_of body ≡ Endless) (w : Written mid id body out) (awaits : Awaits s id) where
+module _ (s : Sign) (good : Good s) (mid id : ℕ) (body out : List ℕ) (e : judge_of body ≡ Ok Endless) (w : Written mid id body out) (awaits : Awaits s id) where
   abbrev at : Sign
   at = t s good mid id body out true e w awaits
 
@@ -150,7 +152,7 @@ module _ (s : Sign) (good : Good s) (mid id : ℕ) (body out : List ℕ) (e : ju
   sound : settings_sound s.run.settings ≡ true
   sound = set s good mid id body out true e w awaits
 
-  never : ours.forecast body s.run.settings.pace s.run.settings.scans ≡ forecast_told Never
+  never : ours.forecast body s.run.settings.pace s.run.settings.scans ≡ forecast_told (Ok Never)
   never = ours_runs.never body s.run.settings sound e
 
   pub goes_on_lem : GoesOn ours at mid body (ours.transmit mid id body out).buffer (ours.forecast body s.run.settings.pace s.run.settings.scans)

@@ -10,14 +10,15 @@ use Rattle.basis.proofs.Choices.{when_true, when_false}
 use Rattle.perform.specs.Settings.{sound_of}
 use Rattle.perform.specs.declared.settings.Settings.{Settings}
 use Rattle.perform.specs.declared.price.Performed.{Performed}
-use Rattle.judge.specs.Verdict.{judge_of, told_of as verdict_told}
-use Rattle.judge.specs.declared.Verdict.{Verdict}
-use Rattle.judge.specs.declared.Verdict.TheVariants.{Finite, Endless, Refused as NoProgram}
+use Rattle.judge.specs.Verdict.{Verdict, judge_of, told_of as verdict_told}
+use Rattle.judge.specs.declared.Ending.TheVariants.{Finite, Endless}
+use Rattle.refusal.specs.declared.Fault.{Fault}
+use Rattle.refusal.specs.Refusal.{fault}
+use Rattle.std.proofs.Common.{Ok, Err}
 use Rattle.grammar.proofs.Grammars.{described_accepted}
-use Rattle.grammar.proofs.Refusals.{first_refused}
+use Rattle.grammar.proofs.Refusals.{first_refused, refusal_named}
 use Rattle.room.specs.Room.{room_of}
 use Rattle.reckon.specs.Forecast.{tallies_of, settled_of, settings_at, out_of_range, by_verdict, forecast_of, told_of as forecast_told}
-use Rattle.reckon.specs.declared.reckon.Foretold.TheVariants.{Refused as RefusedForecast}
 use Rattle.course.specs.Price.{scans, millis}
 use Rattle.course.proofs.Theorem.{finite_ends}
 use Rattle.reckon.proofs.Demand.{forecast_holds, forecast_never}
@@ -58,14 +59,14 @@ performed_told [] = refl
 performed_told (x ∷ xs) = ap (λ (ts : List Told). answer_told (Did x) ∷ ts) (performed_told xs)
 
 -- what the forecast refuses
-out_of_range_lem : (b : List ℕ) (pace each : ℕ) → out_of_range pace each ≡ true → forecast_of b pace each ≡ RefusedForecast 17 0
+out_of_range_lem : (b : List ℕ) (pace each : ℕ) → out_of_range pace each ≡ true → forecast_of b pace each ≡ Err (fault 17 0)
 unfolding forecast_of
-out_of_range_lem b pace each h = when_true (out_of_range pace each) (RefusedForecast 17 0) _ h
+out_of_range_lem b pace each h = when_true (out_of_range pace each) (Err (fault 17 0)) _ h
 
-no_program : (b : List ℕ) (pace each n p : ℕ) → out_of_range pace each ≡ false → judge_of b ≡ NoProgram n p → forecast_of b pace each ≡ RefusedForecast n p
+no_program : (b : List ℕ) (pace each : ℕ) (w : Fault) → out_of_range pace each ≡ false → judge_of b ≡ Err w → forecast_of b pace each ≡ Err w
 unfolding forecast_of
-no_program b pace each n p h e =
-    when_false (out_of_range pace each) (RefusedForecast 17 0) _ h
+no_program b pace each w h e =
+    when_false (out_of_range pace each) (Err (fault 17 0)) _ h
     ∙ ap
     (λ (v : Verdict).
     by_verdict v (tallies_of (room_of b) (started_of (length b) (settings_at pace each))) (settled_of (room_of b) (started_of (length b) (settings_at pace each))))
@@ -79,7 +80,7 @@ started_set s b σ a =
 
 -- a program that ends, and one that does not
 module _ (s : Sign) (b : List ℕ) (σ : Settings) (a : Started ours s b σ) (mid : ℕ) where
-  pub runs : judge_of b ≡ Finite → Runs ours s b σ mid
+  pub runs : judge_of b ≡ Ok Finite → Runs ours s b σ mid
   runs e =
       let set = started_set s b σ a in
       record {
@@ -97,7 +98,7 @@ module _ (s : Sign) (b : List ℕ) (σ : Settings) (a : Started ours s b σ) (mi
             ∙ (quiet_line_then mid es s b σ a.good a.room a.run set e quiet (omega arith)).leaves (steps_then es ∙ all);
       }
 
-  pub goes : judge_of b ≡ Endless → Goes ours s b σ mid
+  pub goes : judge_of b ≡ Ok Endless → Goes ours s b σ mid
   goes e =
       let set = started_set s b σ a in
       record {
@@ -113,9 +114,9 @@ pub ours_runs : LineRuns ours
 ours_runs =
     record {
       accepts = λ b endless d. ap verdict_told (described_accepted b endless d);
-      refuses = λ b n p r. ap verdict_told (first_refused b n p r);
+      refuses = λ b n p r. ap verdict_told (first_refused b n p r) ∙ ap (λ (k : ℕ). no_at k p) (refusal_named b n p r);
       out_of_range_lem = λ b pace each h. ap forecast_told (out_of_range_lem b pace each h);
-      no_program = λ b pace each n p h r. ap forecast_told (no_program b pace each n p h (first_refused b n p r));
+      no_program = λ b pace each n p h r. ap forecast_told (no_program b pace each (fault n p) h (first_refused b n p r)) ∙ ap (λ (k : ℕ). no_at k p) (refusal_named b n p r);
       foretold = λ b σ set e. ap forecast_told (forecast_holds b σ set e);
       never = λ b σ set e. ap forecast_told (forecast_never b σ set e);
       most = λ b σ set e. (line_ends b e σ set).most;

@@ -25,10 +25,12 @@ use Rattle.reply.specs.Reply.{heard_of, told_of as status_told}
 use Rattle.reply.specs.declared.Status.{Status}
 use Rattle.reply.specs.declared.Status.TheVariants.{Heard as HeardReply, Refused as Unheard}
 use Rattle.reply.proofs.Replies.{reply_reads, reply_only}
-use Rattle.judge.specs.Verdict.{judge_of, told_of as verdict_told}
-use Rattle.judge.specs.declared.Verdict.{Verdict}
-use Rattle.judge.specs.declared.Verdict.TheVariants.{Finite, Endless, Refused as NoProgram}
+use Rattle.judge.specs.Verdict.{Verdict, judge_of, told_of as verdict_told}
+use Rattle.judge.specs.declared.Ending.TheVariants.{Finite, Endless}
+use Rattle.program.specs.Table.{known}
+use Rattle.std.proofs.Common.{Ok, Err}
 use Rattle.grammar.proofs.Grammars.{accepted_described}
+use Rattle.refusal.specs.Refusal.{number_of}
 use Rattle.grammar.proofs.Refusals.{refused_first}
 use Rattle.perform.specs.Settings.{sound_of as settings_sound}
 use Rattle.reckon.specs.Forecast.{settings_at, out_of_range}
@@ -150,23 +152,24 @@ module _ {R : Type 0} (u : Calls R) (k : Keeps u) where
   pins_judge b = go (judge_of b) refl
     where
       go : (v : Verdict) → judge_of b ≡ v → u.judge b ≡ verdict_told (judge_of b)
-      go Finite e = k.line.accepts b false (accepted_described b false e) ∙ ap verdict_told (sym e)
-      go Endless e = k.line.accepts b true (accepted_described b true e) ∙ ap verdict_told (sym e)
-      go (NoProgram n p) e = k.line.refuses b n p (refused_first b n p e) ∙ ap verdict_told (sym e)
+      go (Ok Finite) e = k.line.accepts b false (accepted_described b false e) ∙ ap verdict_told (sym e)
+      go (Ok Endless) e = k.line.accepts b true (accepted_described b true e) ∙ ap verdict_told (sym e)
+      go (Err w) e = k.line.refuses b (number_of w.refusal) w.place (refused_first b w e) ∙ ap verdict_told (sym e)
 
   pins_forecast : (b : List ℕ) (pace each : ℕ) → u.forecast b pace each ≡ ours.forecast b pace each
   pins_forecast b pace each = go (out_of_range pace each) refl
     where
       by : (v : Verdict) → judge_of b ≡ v → out_of_range pace each ≡ false → u.forecast b pace each ≡ ours.forecast b pace each
-      by Finite e f =
+      by (Ok Finite) e f =
           let set = range_sound pace each f in
           k.line.foretold b (settings_at pace each) set e ∙ sym (ours_runs.foretold b (settings_at pace each) set e)
-      by Endless e f =
+      by (Ok Endless) e f =
           let set = range_sound pace each f in
           k.line.never b (settings_at pace each) set e ∙ sym (ours_runs.never b (settings_at pace each) set e)
-      by (NoProgram n p) e f =
-          let r = refused_first b n p e in
-          k.line.no_program b pace each n p f r ∙ sym (ours_runs.no_program b pace each n p f r)
+      by (Err w) e f =
+          let r = refused_first b w e in
+          let n = number_of w.refusal in
+          k.line.no_program b pace each n w.place f r ∙ sym (ours_runs.no_program b pace each n w.place f r)
 
       go : (t : Bool) → out_of_range pace each ≡ t → u.forecast b pace each ≡ ours.forecast b pace each
       go true e = k.line.out_of_range_lem b pace each e ∙ sym (ours_runs.out_of_range_lem b pace each e)

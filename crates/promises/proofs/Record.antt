@@ -133,7 +133,7 @@ said_within b p σ (right (rep n z)) e = omega arith
 said_within b p σ (right close) e = omega arith
 said_within b p σ (right forever) e = omega arith
 said_within b p σ (right repeats) e = omega arith
-said_within b p σ (bad n q) e = omega arith
+said_within b p σ (bad w) e = omega arith
 
 ours_within : (s : Sign) → Good s → value_at 2 (ours.step s).told + value_at 3 (ours.step s).told ≤ length (running_body s)
 ours_within s good = subst (λ (t : Told). value_at 2 t + value_at 3 t ≤ length (running_body s)) (sym (ours_steps s good).told) (go (eqb s.run.len 0) refl)

@@ -11,9 +11,9 @@ use Rattle.reader.specs.declared.read.Reading.TheVariants.{Query, Reset, Normal,
 use Rattle.reply.specs.Reply.{told_of as status_told}
 use Rattle.reply.specs.declared.Status.{Status}
 use Rattle.reply.specs.declared.Status.TheVariants.{Heard, Refused as Unheard}
-use Rattle.judge.specs.Verdict.{told_of as verdict_told}
-use Rattle.judge.specs.declared.Verdict.{Verdict}
-use Rattle.judge.specs.declared.Verdict.TheVariants.{Finite, Endless, Refused as NoProgram}
+use Rattle.judge.specs.Verdict.{Verdict, told_of as verdict_told}
+use Rattle.judge.specs.declared.Ending.TheVariants.{Finite, Endless}
+use Rattle.std.proofs.Common.{Ok, Err}
 use Rattle.promises.specs.Unit.{value_at}
 
 -- what a packet was read as
@@ -62,12 +62,12 @@ heard_told (Unheard n) last busy sink e =
     absurd (omega arith)
 
 -- what a body was judged
-pub finite_told : (x : Verdict) → verdict_told x ≡ verdict_told Finite → x ≡ Finite
-finite_told Finite e = refl
-finite_told Endless e = let n : ◌≡◌ {A = ℕ} 1 0 = ap (value_at 0) e in absurd (omega arith)
-finite_told (NoProgram n p) e = let n : ◌≡◌ {A = ℕ} 0 1 = ap (λ (t : Told). length t.values) e in absurd (omega arith)
+pub finite_told : (x : Verdict) → verdict_told x ≡ verdict_told (Ok Finite) → x ≡ Ok Finite
+finite_told (Ok Finite) e = refl
+finite_told (Ok Endless) e = let n : ◌≡◌ {A = ℕ} 1 0 = ap (value_at 0) e in absurd (omega arith)
+finite_told (Err w) e = let n : ◌≡◌ {A = ℕ} 0 1 = ap (λ (t : Told). length t.values) e in absurd (omega arith)
 
-pub endless_told : (x : Verdict) → verdict_told x ≡ verdict_told Endless → x ≡ Endless
-endless_told Endless e = refl
-endless_told Finite e = let n : ◌≡◌ {A = ℕ} 0 1 = ap (value_at 0) e in absurd (omega arith)
-endless_told (NoProgram n p) e = let n : ◌≡◌ {A = ℕ} 0 1 = ap (value_at 0) e in absurd (omega arith)
+pub endless_told : (x : Verdict) → verdict_told x ≡ verdict_told (Ok Endless) → x ≡ Ok Endless
+endless_told (Ok Endless) e = refl
+endless_told (Ok Finite) e = let n : ◌≡◌ {A = ℕ} 0 1 = ap (value_at 0) e in absurd (omega arith)
+endless_told (Err w) e = let n : ◌≡◌ {A = ℕ} 0 1 = ap (value_at 0) e in absurd (omega arith)

@@ -46,6 +46,9 @@ use Rattle.promises.specs.Keeps.{Keeps}
 use Rattle.promises.specs.Wrong.{refusing, eager, noisy, misled, misset, wary, hurried, sorry, rumour, hearsay, idle, scribbling, trusting, made_up, inventing, lenient, at_once, fixed, starting_over, shaken, forgetful, agreeable, deaf, orderly, surly, jumpy, frozen, sulking, drowsy, rosy, mute, parrot, dated, trailing, encore, counting, knowing, narrow, brief, hoarding, distracted, flustered}
 use Rattle.promises.specs.Guard.{unguarded}
 use Rattle.promises.proofs.Pins.{no_other_unit}
+use Rattle.std.proofs.Common.{Result, Ok}
+use Rattle.refusal.specs.declared.Fault.{Fault}
+use Rattle.program.specs.Table.{known}
 
 -- the settings that a sign is set to when it is switched on
 usual : Settings
@@ -155,17 +158,17 @@ trusting_fails k =
     let n : ◌≡◌ {A = ℕ} 0 21 = ap (λ (t : Told). t.number) ((no_other_unit trusting k).judge []) in
     omega arith
 
-foretold_w5 : forecast_of w5 4 1 ≡ Ends (totals_of 1 0 500) 4 1
+foretold_w5 : forecast_of w5 4 1 ≡ Ok (Ends (totals_of 1 0 500) 4 1)
 unfolding usual command_at judge_of settings_sound answer_of
 foretold_w5 = forecast_holds w5 usual refl refl
 
 pub inventing_fails : Keeps inventing → ⊥
 inventing_fails k =
-    let e : made_up (forecast_of w5 4 1) ≡ Ends (totals_of 1 1 500) 4 1 = ap made_up foretold_w5 in
+    let e : made_up (forecast_of w5 4 1) ≡ Ok (Ends (totals_of 1 1 500) 4 1) = ap made_up foretold_w5 in
     let n : ◌≡◌ {A = ℕ} 1 0 =
-    sym (ap (λ (f : Foretold). value_at 2 (forecast_told f)) e)
+    sym (ap (λ (f : Result Foretold Fault). value_at 2 (forecast_told f)) e)
     ∙ ap (value_at 2) ((no_other_unit inventing k).forecast w5 4 1)
-    ∙ ap (λ (f : Foretold). value_at 2 (forecast_told f)) foretold_w5 in
+    ∙ ap (λ (f : Result Foretold Fault). value_at 2 (forecast_told f)) foretold_w5 in
     omega arith
 
 pub lenient_fails : Keeps lenient → ⊥
@@ -176,7 +179,7 @@ lenient_fails k =
 
 pub at_once_fails : Keeps at_once → ⊥
 at_once_fails k =
-    let n : ◌≡◌ {A = ℕ} 0 1 = ap (value_at 1) ((no_other_unit at_once k).forecast w5 4 1) ∙ ap (λ (f : Foretold). value_at 1 (forecast_told f)) foretold_w5 in
+    let n : ◌≡◌ {A = ℕ} 0 1 = ap (value_at 1) ((no_other_unit at_once k).forecast w5 4 1) ∙ ap (λ (f : Result Foretold Fault). value_at 1 (forecast_told f)) foretold_w5 in
     omega arith
 
 pub fixed_fails : Keeps fixed → ⊥

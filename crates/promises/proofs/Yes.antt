@@ -5,7 +5,6 @@ use mathlib.Core.List.{List, [], ◌∷◌}
 use mathlib.Core.Path.{◌≡◌, refl, sym, ap, ◌∙◌}
 use native.Mathlib.Omega.{arith}
 use lib.Dec.{eqb, leb}
-use borrow.Author.Tests.{eqb-false}
 use lib.ListN.{length, get_or, take, drop}
 use Rattle.basis.specs.Choice.{when, within, ◌and◌}
 use Rattle.basis.specs.Rows.{first_of}
@@ -17,37 +16,17 @@ use Rattle.reader.specs.Read.{is_normal, rows_of, refused_or, named, lowest_of, 
 use Rattle.reader.proofs.Guard.{read_stops, read_passes}
 use Rattle.reader.specs.declared.read.Reading.{Reading}
 use Rattle.reader.specs.declared.read.Reading.TheVariants.{Query as QueryRead, Reset as ResetRead, Normal, Refused as Unread}
-use Rattle.params.specs.Bytes.{param_of, first_of as first_byte}
-use Rattle.params.specs.Text.{wrong_of, text_of}
-use Rattle.params.specs.Number.{digits, value_of}
-use Rattle.program.specs.Table.{table, row_at}
-use Rattle.program.specs.Command.{read_of as command_at, row_of, command_of, parameter_of}
-use Rattle.program.specs.declared.Kind.{Kind}
-use Rattle.program.specs.declared.Form.{Form}
-use Rattle.program.specs.declared.Form.TheVariants.{Text, Bare, Number}
-use Rattle.program.specs.declared.Row.{Row}
-use Rattle.program.specs.declared.Row.TheVariants.{Known, Unknown}
-use Rattle.params.specs.declared.Parameter.{Parameter}
-use Rattle.params.specs.declared.Parameter.TheVariants.{Right, Wrong}
-use Rattle.program.specs.declared.Reading.{Reading as CommandReading}
-use Rattle.program.specs.declared.Reading.TheVariants.{Good, Refused as NoCommand}
-use Rattle.loops.specs.Token.{tok_of, bad, get}
+use Rattle.loops.specs.Token.{get}
+use Rattle.refusal.specs.Refusal.{number_of}
+use Rattle.refusal.proofs.Names.{number_some}
 use Rattle.judge.specs.Verdict.{judge_of}
-use Rattle.grammar.specs.Reach.{Refusal, too_long, no_caret, behind, wrong, loops, unclosed}
-use Rattle.judge.specs.declared.Verdict.{Verdict}
-use Rattle.judge.specs.declared.Verdict.TheVariants.{Finite, Endless, Refused as NoProgram}
-use Rattle.grammar.proofs.Refusals.{refused_first}
 use Rattle.course.specs.Steps.{Said, did, idle, next_of, said_of}
 use Rattle.machine.specs.Sound.{body_of, sound_of as run_sound}
-use Rattle.machine.specs.Step.{state_of, run_of, say_of, started_of, step_of as run_step}
+use Rattle.machine.specs.Step.{state_of, run_of, say_of, step_of as run_step}
 use Rattle.machine.specs.declared.Answer.TheVariants.{Idle, Refused as NoStep}
 use Rattle.machine.specs.declared.Run.{Run}
 use Rattle.machine.specs.declared.Stepped.{Stepped as RunStepped}
-use Rattle.reckon.specs.Forecast.{tallies_of, settled_of, settings_at, out_of_range, by_verdict, forecast_of}
-use Rattle.reckon.specs.declared.reckon.Foretold.TheVariants.{Refused as NoForecast}
-use Rattle.perform.specs.declared.settings.Settings.{Settings}
-use Rattle.totals.specs.declared.Totals.{Totals}
-use Rattle.room.specs.Room.{room_of}
+use Rattle.reckon.specs.Forecast.{forecast_of}
 use Rattle.completed.specs.Completed.{has_of}
 use Rattle.collect.specs.Slots.{Collection, held_of, same_of, begun_of, stored_of}
 use Rattle.hear.specs.Join.{slot_of, begins_of}
@@ -62,6 +41,8 @@ use Rattle.sign.specs.declared.Cleared.{Cleared}
 use Rattle.sign.specs.declared.Stepped.{Stepped}
 use Rattle.hear.specs.declared.Outcome.{Outcome}
 use Rattle.hear.specs.declared.Outcome.TheVariants.{Reset, Repeat, Refused}
+use Rattle.std.proofs.Common.{Err}
+use Rattle.refusal.specs.declared.Fault.{Fault}
 
 -- what passes the table of numbers is no refusal
 named_yes : (id fifth len n : ℕ) → named id fifth len ≡ Unread n → ⊥
@@ -103,87 +84,13 @@ heard_no mid b n e = go (is_forbidden mid) refl
     go true q = let h : Unheard 19 ≡ Unheard n = sym (heard_stops mid b q) ∙ e in let z : 19 ≡ n = cc in omega arith
     go false q = let z = unheard_35 mid b n q e in omega arith
 
-above : (k : ℕ) → (k ≡ 0 → ⊥) → 0 < k
-above zero h = absurd (h refl)
-above (suc k) h = omega arith
-
--- a parameter at fault has a number
-text_no : (q p at n r : ℕ) (ds : List ℕ) → text_of q p at ds ≡ Wrong n r → 0 < n
-text_no q p at n r [] e = let z : ◌≡◌ {A = ℕ} 0 1 = cc in absurd (omega arith)
-text_no q p at n r (x ∷ xs) e = go (eqb (wrong_of q p x (first_byte xs)) 0) refl e (λ w. text_no p x (at + 1) n r xs w)
-  where
-    go : (t : Bool) → eqb (wrong_of q p x (first_byte xs)) 0 ≡ t
-        → when t (text_of p x (at + 1) xs) (Wrong (wrong_of q p x (first_byte xs)) at) ≡ Wrong n r
-        → (text_of p x (at + 1) xs ≡ Wrong n r → 0 < n)
-        → 0 < n
-    go true t w rest = rest w
-    go false t w rest =
-        let z : wrong_of q p x (first_byte xs) ≡ n = cc in
-        let other = eqb-false (wrong_of q p x (first_byte xs)) 0 t in
-        above n (λ k. other (z ∙ k))
-
-parameter_no : (f : Form) (p at n q : ℕ) (ds : List ℕ) → parameter_of f p at ds ≡ Wrong n q → 0 < n
-parameter_no Text p at n q ds e = text_no 0 0 at n q ds e
-parameter_no Bare p at n q [] e = let z : ◌≡◌ {A = ℕ} 0 1 = cc in absurd (omega arith)
-parameter_no Bare p at n q (x ∷ ds) e = let z : 24 ≡ n = cc in omega arith
-parameter_no (Number lo hi most) p at n q ds e =
-    go (digits ds and (within 1 (length ds) most and within lo (value_of 0 ds) hi)) (value_of 0 ds) (at + length ds) e
-  where
-    go : (t : Bool) (v w : ℕ) → when t (Right w v) (Wrong 23 p) ≡ Wrong n q → 0 < n
-    go true v w k = let z : ◌≡◌ {A = ℕ} 0 1 = cc in absurd (omega arith)
-    go false v w k = let z : 23 ≡ n = cc in omega arith
-
--- and so has a command at fault
-command_no : (b : List ℕ) (p n q : ℕ) → command_at b p ≡ NoCommand n q → 0 < n
-unfolding command_at
-command_no b p n q e = go (row_at table (drop p b)) e
-  where
-    by : (k : Kind) (f : Form) (at : ℕ) (x : Parameter) → command_of k f at x ≡ NoCommand n q → (x ≡ Wrong n q → 0 < n) → 0 < n
-    by k Text at (Right next v) w h = let z : ◌≡◌ {A = ℕ} 0 1 = cc in absurd (omega arith)
-    by k Bare at (Right next v) w h = let z : ◌≡◌ {A = ℕ} 0 1 = cc in absurd (omega arith)
-    by k (Number lo hi most) at (Right next v) w h = let z : ◌≡◌ {A = ℕ} 0 1 = cc in absurd (omega arith)
-    by k Text at (Wrong m r) w h = let a : m ≡ n = cc in let c : r ≡ q = cc in h (ap (λ (v : ℕ). Wrong v r) a ∙ ap (Wrong n) c)
-    by k Bare at (Wrong m r) w h = let a : m ≡ n = cc in let c : r ≡ q = cc in h (ap (λ (v : ℕ). Wrong v r) a ∙ ap (Wrong n) c)
-    by k (Number lo hi most) at (Wrong m r) w h = let a : m ≡ n = cc in let c : r ≡ q = cc in h (ap (λ (v : ℕ). Wrong v r) a ∙ ap (Wrong n) c)
-
-    go : (r : Row) → row_of b p r ≡ NoCommand n q → 0 < n
-    go Unknown w = let z : 22 ≡ n = cc in omega arith
-    go (Known k f letters) w =
-        by k f (p + letters) (parameter_of f p (p + letters) (param_of (drop (p + letters) b))) w
-        (λ x. parameter_no f p (p + letters) n q (param_of (drop (p + letters) b)) x)
-
 -- a refused body has a number
-token_no : (b : List ℕ) (p n q : ℕ) → get b p ≡ bad n q → 0 < n
-token_no b p n q e = go (command_at b p) refl e
-  where
-    go : (r : CommandReading) → command_at b p ≡ r → tok_of b p r ≡ bad n q → 0 < n
-    go (Good c) w k = let z : ◌≡◌ {A = ℕ} 0 1 = cc in absurd (omega arith)
-    go (NoCommand m r) w k = let a : m ≡ n = cc in let h = command_no b p m r w in omega arith
-
-pub judge_no : (b : List ℕ) (n q : ℕ) → judge_of b ≡ NoProgram n q → 0 < n
-judge_no b n q e = go (refused_first b n q e)
-  where
-    go : {k r : ℕ} → Refusal b k r → 0 < k
-    go (too_long h) = omega arith
-    go (no_caret h w) = omega arith
-    go (behind h r w) = omega arith
-    go (wrong {p = p} {n = k} {q = r} h w l t) = token_no b p k r t
-    go (loops h w t s) = omega arith
-    go (unclosed h w l) = omega arith
+pub judge_no : (b : List ℕ) (w : Fault) → judge_of b ≡ Err w → 0 < number_of w.refusal
+judge_no b w e = number_some w.refusal
 
 -- a refused forecast too
-pub forecast_no : (b : List ℕ) (pace each n q : ℕ) → forecast_of b pace each ≡ NoForecast n q → 0 < n
-unfolding forecast_of
-forecast_no b pace each n q e = go (out_of_range pace each) e
-  where
-    by : (v : Verdict) (t : Totals) (σ : Settings) → judge_of b ≡ v → by_verdict v t σ ≡ NoForecast n q → 0 < n
-    by Finite t σ w k = let z : ◌≡◌ {A = ℕ} 0 1 = cc in absurd (omega arith)
-    by Endless t σ w k = let z : ◌≡◌ {A = ℕ} 0 1 = cc in absurd (omega arith)
-    by (NoProgram m r) t σ w k = let a : m ≡ n = cc in let h = judge_no b m r w in omega arith
-
-    go : (t : Bool) → when t (NoForecast 17 0) (by_verdict (judge_of b) (tallies_of (room_of b) (started_of (length b) (settings_at pace each))) (settled_of (room_of b) (started_of (length b) (settings_at pace each)))) ≡ NoForecast n q → 0 < n
-    go true w = let z : 17 ≡ n = cc in omega arith
-    go false w = by (judge_of b) _ _ refl w
+pub forecast_no : (b : List ℕ) (pace each : ℕ) (w : Fault) → forecast_of b pace each ≡ Err w → 0 < number_of w.refusal
+forecast_no b pace each w e = number_some w.refusal
 
 -- a refused step, and a refused reset, are 16
 run_no : (room : List ℕ) (r : Run) (n : ℕ) → (run_step room r).answer ≡ NoStep n → 0 < n

@@ -1,12 +1,12 @@
 -- The examples that the rules mark with a star, as one table under one statement (P5).
-use Rattle.std.specs.Prelude.{ℕ, false, List, [], ◌∷◌, ◌++◌, ◌≡◌, replicate}
+use Rattle.std.specs.Prelude.{ℕ, false, List, [], ◌∷◌, ◌++◌, ◌≡◌, replicate, Result, Ok, Err}
 use Rattle.packet.specs.Wire.{packet_of, query_of, reset_of}
 use Rattle.reader.specs.Read.{read_of}
 use Rattle.reader.specs.declared.read.Reading.{Reading}
 use Rattle.reader.specs.declared.read.Reading.TheVariants.{Normal, Refused}
-use Rattle.judge.specs.Verdict.{judge_of}
-use Rattle.judge.specs.declared.Verdict.{Verdict}
-use Rattle.judge.specs.declared.Verdict.TheVariants.{Refused as RefusedBody}
+use Rattle.judge.specs.Verdict.{Verdict, judge_of}
+use Rattle.refusal.specs.declared.Fault.{Fault}
+use Rattle.refusal.specs.Refusal.{fault}
 use Rattle.reckon.specs.Forecast.{forecast_of}
 use Rattle.totals.specs.Totals.{totals_of}
 use Rattle.reckon.specs.declared.reckon.Foretold.{Foretold}
@@ -20,7 +20,7 @@ pub data Example : Type 0 where
   reads : (mid : ℕ) → List ℕ → Reading → Example
   carries : (bytes packet : List ℕ) → Example
   judges : List ℕ → Verdict → Example
-  foretells : List ℕ → Foretold → Example
+  foretells : List ℕ → Result Foretold Fault → Example
 
 -- an example holds of the definitions
 abbrev pub Holds : Example → Type 0
@@ -78,8 +78,8 @@ abbrev pub unclosed : List ℕ
 unclosed = 0x5E ∷ 0x4C ∷ 0x31 ∷ 0x5E ∷ 0x57 ∷ 0x31 ∷ []
 
 -- steps, scans, milliseconds, and the pace and scan setting left
-abbrev pub costs : (steps scans millis pace each : ℕ) → Foretold
-costs steps scans millis pace each = Ends (totals_of steps scans millis) pace each
+abbrev pub costs : (steps scans millis pace each : ℕ) → Result Foretold Fault
+costs steps scans millis pace each = Ok (Ends (totals_of steps scans millis) pace each)
 
 abbrev pub starred : List Example
 starred =
@@ -97,8 +97,8 @@ starred =
     ∷ foretells s (costs 1 0 0 4 1)
     ∷ foretells slow (costs 3 612 20400 1 6)
     ∷ foretells edge (costs 1 7 156 4 1)
-    ∷ judges nested (RefusedBody 26 3)
-    ∷ judges p21 (RefusedBody 23 0)
-    ∷ judges tilde (RefusedBody 25 4)
-    ∷ judges unclosed (RefusedBody 26 0)
+    ∷ judges nested (Err (fault 26 3))
+    ∷ judges p21 (Err (fault 23 0))
+    ∷ judges tilde (Err (fault 25 4))
+    ∷ judges unclosed (Err (fault 26 0))
     ∷ []

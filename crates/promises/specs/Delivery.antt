@@ -1,10 +1,10 @@
 -- The delivery: a body written as a transmission (W16), its packets taken out of the buffer by walking over it, and
 -- received in order. Demand 2, by J9 to J12, and J4 for copies.
-use Rattle.std.specs.Prelude.{ℕ, zero, suc, ◌<◌, Bool, List, [], ◌≡◌, length, get_or, take, drop, replicate}
+use Rattle.std.specs.Prelude.{ℕ, zero, suc, ◌<◌, Bool, List, [], ◌≡◌, length, get_or, take, drop, replicate, Err}
 use Rattle.packet.specs.Wire.{total_of}
 use Rattle.room.specs.Room.{room_of}
 use Rattle.judge.specs.Verdict.{judge_of}
-use Rattle.judge.specs.declared.Verdict.TheVariants.{Refused as NoProgram}
+use Rattle.refusal.specs.declared.Fault.{Fault}
 use Rattle.grammar.specs.Grammar.{accepted_as}
 use Rattle.completed.specs.Completed.{added_of}
 use Rattle.collect.specs.Slots.{slots_in, none_of}
@@ -43,8 +43,8 @@ pub record Gets {R : Type 0} (u : Calls R) (r : R) (mid id : ℕ) (body buffer :
   pub runs : (endless : Bool) → judge_of body ≡ accepted_as endless
       → (u.holds (behind u r mid buffer (total_of body))).run ≡ started_of (length body) (u.holds r).run.settings
   -- with another body the room is empty and the sign rests
-  pub empty : (n place : ℕ) → judge_of body ≡ NoProgram n place → (u.holds (behind u r mid buffer (total_of body))).room ≡ replicate 84 0
-  pub rests : (n place : ℕ) → judge_of body ≡ NoProgram n place → (u.holds (behind u r mid buffer (total_of body))).run ≡ (u.holds r).run
+  pub empty : (w : Fault) → judge_of body ≡ Err w → (u.holds (behind u r mid buffer (total_of body))).room ≡ replicate 84 0
+  pub rests : (w : Fault) → judge_of body ≡ Err w → (u.holds (behind u r mid buffer (total_of body))).run ≡ (u.holds r).run
   -- and a copy of any of those packets is a Repeat that changes nothing
   pub repeats : (p : ℕ) → p < total_of body
       → u.receive (behind u r mid buffer (total_of body)) mid (packet_in buffer p) ≡ stays (behind u r mid buffer (total_of body)) (outcome_told Repeat)

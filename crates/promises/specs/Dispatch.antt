@@ -1,11 +1,11 @@
 -- From dispatch to Ready: demands 2 and 3 and the driver's wish (a line that has started runs to its end, once, and no
 -- late copy starts it again), by J4, J10, J11, S11, S22, S24, S26 and S32. The forecast, its sums and the Repeats are
 -- the unit's own answers; Busy and Ready are those of the record, which the reply tells (Record: `replies`).
-use Rattle.std.specs.Prelude.{ℕ, suc, ◌+◌, ◌≤◌, ◌<◌, List, [], ◌∷◌, ◌≡◌, replicate}
+use Rattle.std.specs.Prelude.{ℕ, suc, ◌+◌, ◌≤◌, ◌<◌, List, [], ◌∷◌, ◌≡◌, replicate, Ok}
 use Rattle.basis.specs.Told.{Told}
 use Rattle.packet.specs.Wire.{total_of}
 use Rattle.judge.specs.Verdict.{told_of as verdict_told}
-use Rattle.judge.specs.declared.Verdict.TheVariants.{Finite, Endless}
+use Rattle.judge.specs.declared.Ending.TheVariants.{Finite, Endless}
 use Rattle.hear.specs.Hear.{told_of as outcome_told}
 use Rattle.hear.specs.declared.Outcome.TheVariants.{Repeat}
 use Rattle.service.specs.Delivery.{Awaits}
@@ -66,12 +66,12 @@ pub record GoesOn {R : Type 0} (u : Calls R) (t : R) (mid : ℕ) (body buffer : 
 
 -- the promise: a body that the unit accepts as a program, written by it and delivered to a sound and Ready sign that awaits the number
 pub record DispatchToReady {R : Type 0} (u : Calls R) : Type 0 where
-  pub finite : (r : R) → Good (u.holds r) → (mid id : ℕ) (body out : List ℕ) → u.judge body ≡ verdict_told Finite
+  pub finite : (r : R) → Good (u.holds r) → (mid id : ℕ) (body out : List ℕ) → u.judge body ≡ verdict_told (Ok Finite)
       → (u.transmit mid id body out).told.number ≡ 0
       → Awaits (u.holds r) id
       → Arrives u (behind u r mid (u.transmit mid id body out).buffer (total_of body)) mid body (u.transmit mid id body out).buffer
       (u.forecast body (u.holds r).run.settings.pace (u.holds r).run.settings.scans)
-  pub endless : (r : R) → Good (u.holds r) → (mid id : ℕ) (body out : List ℕ) → u.judge body ≡ verdict_told Endless
+  pub endless : (r : R) → Good (u.holds r) → (mid id : ℕ) (body out : List ℕ) → u.judge body ≡ verdict_told (Ok Endless)
       → (u.transmit mid id body out).told.number ≡ 0
       → Awaits (u.holds r) id
       → GoesOn u (behind u r mid (u.transmit mid id body out).buffer (total_of body)) mid body (u.transmit mid id body out).buffer

@@ -1,12 +1,12 @@
 -- The line: a started program, its steps and whatever bytes come between them, and its forecast. Demand 3, by L28 and
 -- L29 for judging, S22 to S26, S32 and N17 for the forecast, S11 for the end.
-use Rattle.std.specs.Prelude.{ℕ, suc, ◌^◌, ◌≤◌, ◌<◌, true, false, List, [], ◌∷◌, ◌++◌, ◌≡◌, length, take}
+use Rattle.std.specs.Prelude.{ℕ, suc, ◌^◌, ◌≤◌, ◌<◌, true, false, List, [], ◌∷◌, ◌++◌, ◌≡◌, length, take, Ok}
 use Rattle.basis.specs.Told.{Told, no_at}
 use Rattle.perform.specs.Settings.{sound_of}
 use Rattle.perform.specs.declared.settings.Settings.{Settings}
 use Rattle.perform.specs.declared.price.Performed.{Performed}
 use Rattle.judge.specs.Verdict.{judge_of, told_of as verdict_told}
-use Rattle.judge.specs.declared.Verdict.TheVariants.{Finite, Endless}
+use Rattle.judge.specs.declared.Ending.TheVariants.{Finite, Endless}
 use Rattle.grammar.specs.Grammar.{Described, accepted_as}
 use Rattle.grammar.specs.Reach.{Refusal}
 use Rattle.course.specs.Price.{sum_by, scans, millis}
@@ -70,15 +70,15 @@ pub record LineRuns {R : Type 0} (u : Calls R) : Type 0 where
   -- the pace and scan setting after them
   pub out_of_range_lem : (b : List ℕ) (pace each : ℕ) → out_of_range pace each ≡ true → u.forecast b pace each ≡ no_at 17 0
   pub no_program : (b : List ℕ) (pace each n p : ℕ) → out_of_range pace each ≡ false → Refusal b n p → u.forecast b pace each ≡ no_at n p
-  pub foretold : (b : List ℕ) (σ : Settings) → sound_of σ ≡ true → judge_of b ≡ Finite
+  pub foretold : (b : List ℕ) (σ : Settings) → sound_of σ ≡ true → judge_of b ≡ Ok Finite
       → u.forecast b σ.pace σ.scans
       ≡ forecast_told
-      (Ends (totals_of (length (line_of b σ)) (sum_by scans (line_of b σ)) (sum_by millis (line_of b σ))) (exit_of (tree_in b).block σ).pace
-      (exit_of (tree_in b).block σ).scans)
-  pub never : (b : List ℕ) (σ : Settings) → sound_of σ ≡ true → judge_of b ≡ Endless → u.forecast b σ.pace σ.scans ≡ forecast_told Never
-  pub most : (b : List ℕ) (σ : Settings) → sound_of σ ≡ true → judge_of b ≡ Finite → length (line_of b σ) ≤ 3961
-  pub fits : (b : List ℕ) (σ : Settings) → sound_of σ ≡ true → judge_of b ≡ Finite
+      (Ok (Ends (totals_of (length (line_of b σ)) (sum_by scans (line_of b σ)) (sum_by millis (line_of b σ))) (exit_of (tree_in b).block σ).pace
+      (exit_of (tree_in b).block σ).scans))
+  pub never : (b : List ℕ) (σ : Settings) → sound_of σ ≡ true → judge_of b ≡ Ok Endless → u.forecast b σ.pace σ.scans ≡ forecast_told (Ok Never)
+  pub most : (b : List ℕ) (σ : Settings) → sound_of σ ≡ true → judge_of b ≡ Ok Finite → length (line_of b σ) ≤ 3961
+  pub fits : (b : List ℕ) (σ : Settings) → sound_of σ ≡ true → judge_of b ≡ Ok Finite
       → (sum_by scans (line_of b σ) < 2 ^ 32) × (sum_by millis (line_of b σ) < 2 ^ 32)
   -- the runs
-  pub finite : (r : R) (b : List ℕ) (σ : Settings) → Started u r b σ → judge_of b ≡ Finite → (mid : ℕ) → Runs u r b σ mid
-  pub endless : (r : R) (b : List ℕ) (σ : Settings) → Started u r b σ → judge_of b ≡ Endless → (mid : ℕ) → Goes u r b σ mid
+  pub finite : (r : R) (b : List ℕ) (σ : Settings) → Started u r b σ → judge_of b ≡ Ok Finite → (mid : ℕ) → Runs u r b σ mid
+  pub endless : (r : R) (b : List ℕ) (σ : Settings) → Started u r b σ → judge_of b ≡ Ok Endless → (mid : ℕ) → Goes u r b σ mid

@@ -1,5 +1,5 @@
 -- Wrong units, those of P3 and P4 among them, each refuted in proofs/Wrong: what the promises shut out.
-use Rattle.std.specs.Prelude.{ℕ, suc, ◌-◌, Bool, false, List, [], ◌∷◌, ◌++◌, eqb, ltb, length, get_or, take, drop, replicate}
+use Rattle.std.specs.Prelude.{ℕ, suc, ◌-◌, Bool, false, List, [], ◌∷◌, ◌++◌, eqb, ltb, length, get_or, take, drop, replicate, Result, Ok, Err}
 use Rattle.basis.specs.Choice.{when, ◌and◌, ◌or◌}
 use Rattle.basis.specs.Told.{Told, yes, no}
 use Rattle.packet.specs.Mid.{is_forbidden, mid_row}
@@ -12,9 +12,9 @@ use Rattle.reply.specs.Reply.{told_of as status_told}
 use Rattle.reply.specs.declared.Status.TheVariants.{Heard as HeardReply}
 use Rattle.perform.specs.declared.settings.Settings.{Settings}
 use Rattle.perform.specs.declared.price.Performed.{Performed}
-use Rattle.judge.specs.Verdict.{judge_of, told_of as verdict_told}
-use Rattle.judge.specs.declared.Verdict.{Verdict}
-use Rattle.judge.specs.declared.Verdict.TheVariants.{Finite, Endless, Refused as NoProgram}
+use Rattle.judge.specs.Verdict.{Verdict, judge_of, told_of as verdict_told}
+use Rattle.judge.specs.declared.Ending.TheVariants.{Finite, Endless}
+use Rattle.refusal.specs.declared.Fault.{Fault}
 use Rattle.measure.specs.Width.{measured_of, widths_of}
 use Rattle.measure.specs.declared.width.Widths.{Widths}
 use Rattle.loops.specs.Token.{Part, act, rep, close, forever, again, Tok, good, bad, get, tokens}
@@ -28,7 +28,7 @@ use Rattle.room.specs.Room.{room_of}
 use Rattle.totals.specs.Totals.{totals_of}
 use Rattle.reckon.specs.Forecast.{settings_at, forecast_of, told_of as forecast_told}
 use Rattle.reckon.specs.declared.reckon.Foretold.{Foretold}
-use Rattle.reckon.specs.declared.reckon.Foretold.TheVariants.{Ends, Endless as Never, Refused as NoForecast}
+use Rattle.reckon.specs.declared.reckon.Foretold.TheVariants.{Ends, Endless as Never}
 use Rattle.machine.specs.Step.{ready_of, started_of, say_of, told_of as answer_told}
 use Rattle.machine.specs.declared.Answer.TheVariants.{Idle}
 use Rattle.hear.specs.Hear.{told_of as outcome_told}
@@ -112,7 +112,7 @@ judging f = plans f ours.repeat
 abbrev pub repeating : (List ℕ → ℕ → ℕ → List ℕ → List ℕ) → Calls Sign
 repeating f = plans ours.judge f
 
-abbrev pub foretelling : (List ℕ → ℕ → ℕ → Foretold) → Calls Sign
+abbrev pub foretelling : (List ℕ → ℕ → ℕ → Result Foretold Fault) → Calls Sign
 foretelling f =
     works (λ b pace each. forecast_told (f b pace each)) ours.holds ours.power ours.receive ours.step ours.clear ours.reply ours.copy
 
@@ -189,22 +189,21 @@ scribbling =
 
 -- a judge that accepts every body
 abbrev pub trusting : Calls Sign
-trusting = judging (λ b. verdict_told Finite)
+trusting = judging (λ b. verdict_told (Ok Finite))
 
 -- a forecast whose scans are made up
-abbrev pub made_up : Foretold → Foretold
-made_up (Ends t pace each) = Ends (totals_of t.steps.0 (suc t.scans.0) t.millis.0) pace each
-made_up Never = Never
-made_up (NoForecast n p) = NoForecast n p
+abbrev pub made_up : Result Foretold Fault → Result Foretold Fault
+made_up (Ok (Ends t pace each)) = Ok (Ends (totals_of t.steps.0 (suc t.scans.0) t.millis.0) pace each)
+made_up (Ok Never) = Ok Never
+made_up (Err w) = Err w
 
 abbrev pub inventing : Calls Sign
 inventing = foretelling (λ b pace each. made_up (forecast_of b pace each))
 
 -- a forecast of nothing for what is refused
-abbrev pub nothing_for : Foretold → Foretold
-nothing_for (Ends t pace each) = Ends t pace each
-nothing_for Never = Never
-nothing_for (NoForecast n p) = Ends (totals_of 0 0 0) 4 1
+abbrev pub nothing_for : Result Foretold Fault → Result Foretold Fault
+nothing_for (Ok f) = Ok f
+nothing_for (Err w) = Ok (Ends (totals_of 0 0 0) 4 1)
 
 abbrev pub lenient : Calls Sign
 lenient = foretelling (λ b pace each. nothing_for (forecast_of b pace each))
@@ -220,7 +219,7 @@ readied h =
 
 abbrev pub at_once : Calls Sign
 at_once =
-    works (λ b pace each. forecast_told (Ends (totals_of 0 0 0) pace each)) ours.holds ours.power (λ s mid b. readied (ours.receive s mid b)) ours.step
+    works (λ b pace each. forecast_told (Ok (Ends (totals_of 0 0 0) pace each))) ours.holds ours.power (λ s mid b. readied (ours.receive s mid b)) ours.step
     ours.clear
     ours.reply
     ours.copy
@@ -375,9 +374,9 @@ frozen =
 
 -- a sign that answers 16 to every step of an endless program
 abbrev pub sulks : Verdict → Told → Told
-sulks Finite t = t
-sulks Endless t = no 16
-sulks (NoProgram n p) t = t
+sulks (Ok Finite) t = t
+sulks (Ok Endless) t = no 16
+sulks (Err w) t = t
 
 abbrev pub sulking : Calls Sign
 sulking = stepping (λ s. record { told = sulks (judge_of (running_body s)) (ours.step s).told; next = (ours.step s).next })
@@ -414,16 +413,16 @@ part_by f b again = again
 
 abbrev pub tok_by : (List ℕ → Widths) → List ℕ → Tok → Tok
 tok_by f b (good c) = good (part_by f b c)
-tok_by f b (bad n q) = bad n q
+tok_by f b (bad w) = bad w
 
 abbrev pub block_by : (List ℕ → Widths) → List ℕ → Block
 block_by f b = (tree_of (tokens (λ p. tok_by f b (get b p)) (length b) (length b) 0)).block
 
-abbrev pub foretold_by : (List ℕ → Widths) → List ℕ → Settings → Foretold → Foretold
-foretold_by f b σ (Ends t pace each) =
-    Ends (totals_of t.steps.0 (price_of scans (block_by f b) σ) (price_of millis (block_by f b) σ)) pace each
-foretold_by f b σ Never = Never
-foretold_by f b σ (NoForecast n p) = NoForecast n p
+abbrev pub foretold_by : (List ℕ → Widths) → List ℕ → Settings → Result Foretold Fault → Result Foretold Fault
+foretold_by f b σ (Ok (Ends t pace each)) =
+    Ok (Ends (totals_of t.steps.0 (price_of scans (block_by f b) σ) (price_of millis (block_by f b) σ)) pace each)
+foretold_by f b σ (Ok Never) = Ok Never
+foretold_by f b σ (Err w) = Err w
 
 abbrev pub said_by : (List ℕ → Widths) → Sign → Told
 said_by f s = answer_told (say_of (said_at (tok_by f (running_body s) (get (running_body s) s.run.place)) s.run.settings))

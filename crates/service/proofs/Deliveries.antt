@@ -18,9 +18,9 @@ use Rattle.packet.proofs.Parts.{part_length}
 use Rattle.packet.proofs.Stands.{part_stands}
 use Rattle.reader.proofs.ReadBack.{body_reads}
 use Rattle.grammar.specs.Grammar.{accepted_as}
-use Rattle.judge.specs.Verdict.{judge_of}
-use Rattle.judge.specs.declared.Verdict.{Verdict}
-use Rattle.judge.specs.declared.Verdict.TheVariants.{Finite, Endless, Refused as NoProgram}
+use Rattle.judge.specs.Verdict.{Verdict, judge_of}
+use Rattle.program.specs.Table.{known}
+use Rattle.std.proofs.Common.{Ok, Err}
 use Rattle.machine.specs.Step.{started_of}
 use Rattle.room.specs.Room.{room_of}
 use Rattle.completed.specs.Completed.{has_of, added_of}
@@ -254,15 +254,13 @@ module _ (s : Sign) (good : Good s) (mid id : ℕ) (body : List ℕ) (allowed : 
 
   -- whatever the verdict, the ID is completed and nothing is collected
   left_completed : (v : Verdict) → (left v).completed ≡ added_of s.completed id
-  left_completed Finite = refl
-  left_completed Endless = refl
-  left_completed (NoProgram n place) = refl
+  left_completed (Ok e) = refl
+  left_completed (Err w) = refl
 
   left_none : (v : Verdict) → (left v).slots ≡ slots_in none_of
   unfolding begun_of
-  left_none Finite = refl
-  left_none Endless = refl
-  left_none (NoProgram n place) = refl
+  left_none (Ok e) = refl
+  left_none (Err w) = refl
 
   -- the empty room
   none_room : none_of.room ≡ blank 84
@@ -281,8 +279,8 @@ module _ (s : Sign) (good : Good s) (mid id : ℕ) (body : List ℕ) (allowed : 
         none = λ p e. ap (λ (t : Sign). t.slots) (delivers_left p (judge_of body) e refl) ∙ left_none (judge_of body);
         holds = λ p e endless q. ap (λ (t : Sign). t.room) (delivers_left p (accepted_as endless) e q ∙ left_accepted endless);
         runs = λ p e endless q. ap (λ (t : Sign). t.run) (delivers_left p (accepted_as endless) e q ∙ left_accepted endless);
-        empty = λ p e n place q. ap (λ (t : Sign). t.room) (delivers_left p (NoProgram n place) e q) ∙ none_room;
-        rests = λ p e n place q. ap (λ (t : Sign). t.run) (delivers_left p (NoProgram n place) e q);
+        empty = λ p e w q. ap (λ (t : Sign). t.room) (delivers_left p (Err w) e q) ∙ none_room;
+        rests = λ p e w q. ap (λ (t : Sign). t.run) (delivers_left p (Err w) e q);
       }
 
 -- packets keep the record sound

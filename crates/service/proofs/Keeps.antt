@@ -16,10 +16,11 @@ use Rattle.reader.specs.declared.read.Reading.{Reading}
 use Rattle.reader.specs.declared.read.Reading.TheVariants.{Query, Reset, Normal, Refused}
 use Rattle.perform.specs.Settings.{sound_of as settings_sound}
 use Rattle.perform.specs.declared.settings.Settings.{Settings}
-use Rattle.judge.specs.Verdict.{judge_of}
-use Rattle.judge.specs.declared.Verdict.{Verdict}
+use Rattle.judge.specs.Verdict.{Verdict, judge_of}
 use Rattle.grammar.specs.Grammar.{accepted_as}
-use Rattle.judge.specs.declared.Verdict.TheVariants.{Finite, Endless, Refused as NoProgram}
+use Rattle.judge.specs.declared.Ending.TheVariants.{Finite, Endless}
+use Rattle.program.specs.Table.{known}
+use Rattle.std.proofs.Common.{Ok, Err}
 use Rattle.room.specs.Room.{zeros_of}
 use Rattle.completed.specs.Completed.{none_of as no_completed, has_of, added_of, sound_of as completed_sound}
 use Rattle.completed.specs.declared.Completed.{Completed}
@@ -143,9 +144,9 @@ release_good s id body g ready known other = go (judge_of body) refl
 
     go : (v : Verdict) → judge_of body ≡ v
         → Good (starts_of v (sign_of d (body_in body) (started_of (length body) s.run.settings)) (sign_of d none_of s.run))
-    go Finite e = started_good s d body false e g right room
-    go Endless e = started_good s d body true e g right room
-    go (NoProgram n p) e = none_good s d g ready right room
+    go (Ok Finite) e = started_good s d body false e g right room
+    go (Ok Endless) e = started_good s d body true e g right room
+    go (Err w) e = none_good s d g ready right room
 
 -- a packet placed in a Ready record
 module _ (s : Sign) (g : Good s) (ready : s.run.len ≡ 0) (c : Collection) (position : ℕ) (part : List ℕ) (lens : length c.lens ≡ 6)

@@ -13,7 +13,8 @@ use Rattle.room.specs.Room.{room_of}
 use Rattle.perform.specs.Settings.{sound_of as settings_sound}
 use Rattle.perform.specs.declared.settings.Settings.{Settings}
 use Rattle.judge.specs.Verdict.{judge_of}
-use Rattle.judge.specs.declared.Verdict.TheVariants.{Finite}
+use Rattle.judge.specs.declared.Ending.TheVariants.{Finite}
+use Rattle.std.proofs.Common.{Ok}
 use Rattle.machine.specs.Line.{line_of}
 use Rattle.machine.specs.Sound.{sound_of as run_sound}
 use Rattle.machine.specs.Step.{ready_of, started_of, step_of as run_step, after_run, said_run}
@@ -154,11 +155,11 @@ module _ (s : Sign) (b : List ℕ) (σ : Settings) (g : Good s) (w : s.room ≡ 
   started_said k = steps_said k s g ∙ ap (λ (room : List ℕ). said_run k room s.run) w ∙ ap (said_run k (room_of b)) e
 
   -- it is Busy before the last of its steps
-  pub busy_steps : settings_sound σ ≡ true → judge_of b ≡ Finite → (k : ℕ) → k < length (line_of b σ) → (after_steps k s).run.len ≡ 0 → ⊥
+  pub busy_steps : settings_sound σ ≡ true → judge_of b ≡ Ok Finite → (k : ℕ) → k < length (line_of b σ) → (after_steps k s).run.len ≡ 0 → ⊥
   busy_steps set fin k before z = (line_ends b fin σ set).busy_before k before (sym (ap (λ (r : Run). r.len) (started_run k)) ∙ z)
 
 -- a program that ends has a step at least
-pub line_some : (b : List ℕ) (σ : Settings) → settings_sound σ ≡ true → judge_of b ≡ Finite → 0 < length (line_of b σ)
+pub line_some : (b : List ℕ) (σ : Settings) → settings_sound σ ≡ true → judge_of b ≡ Ok Finite → 0 < length (line_of b σ)
 unfolding ready_of
 line_some b σ set fin = go (length (line_of b σ)) refl
   where
@@ -171,7 +172,7 @@ line_some b σ set fin = go (length (line_of b σ)) refl
 
 pub on_time : (mid : ℕ) (es : List Event) (s : Sign) (b : List ℕ) (σ : Settings) → Good s → s.room ≡ room_of b → s.run ≡ started_of (length b) σ
     → settings_sound σ ≡ true
-    → judge_of b ≡ Finite
+    → judge_of b ≡ Ok Finite
     → Undisturbed mid es s
     → OnTime mid es s b σ
 unfolding ready_of

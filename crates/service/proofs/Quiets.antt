@@ -10,7 +10,8 @@ use Rattle.room.specs.Room.{room_of}
 use Rattle.perform.specs.Settings.{sound_of as settings_sound}
 use Rattle.perform.specs.declared.settings.Settings.{Settings}
 use Rattle.judge.specs.Verdict.{judge_of}
-use Rattle.judge.specs.declared.Verdict.TheVariants.{Finite, Endless}
+use Rattle.judge.specs.declared.Ending.TheVariants.{Finite, Endless}
+use Rattle.std.proofs.Common.{Ok}
 use Rattle.machine.specs.Line.{line_of}
 use Rattle.machine.specs.Step.{started_of}
 use Rattle.machine.specs.declared.Run.{Run}
@@ -62,7 +63,7 @@ undisturbed_keeps mid es s good u =
 module _ (mid : ℕ) (es : List Event) (s : Sign) (b : List ℕ) (σ : Settings) (good : Good s) (holds : s.room ≡ room_of b)
     (runs : s.run ≡ started_of (length b) σ)
     (set : settings_sound σ ≡ true)
-    (finite : judge_of b ≡ Finite)
+    (finite : judge_of b ≡ Ok Finite)
     (quiet : Quiet mid es)
     (before : steps_in es < length (line_of b σ)) where
   undisturbed : Undisturbed mid es s
@@ -88,7 +89,7 @@ module _ (mid : ℕ) (es : List Event) (s : Sign) (b : List ℕ) (σ : Settings)
 module _ (mid : ℕ) (es : List Event) (s : Sign) (b : List ℕ) (σ : Settings) (good : Good s) (holds : s.room ≡ room_of b)
     (runs : s.run ≡ started_of (length b) σ)
     (set : settings_sound σ ≡ true)
-    (endless : judge_of b ≡ Endless)
+    (endless : judge_of b ≡ Ok Endless)
     (quiet : Quiet mid es) where
   -- it is Busy after each
   never : (k : ℕ) → (after_steps k s).run.len ≡ 0 → ⊥

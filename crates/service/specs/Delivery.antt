@@ -1,10 +1,10 @@
 -- The packets of a body received in order: demand 2, by J9 to J12.
-use Rattle.std.specs.Prelude.{ℕ, zero, suc, ◌<◌, List, ◌≡◌, Bool, true, false, length, take, replicate}
+use Rattle.std.specs.Prelude.{ℕ, zero, suc, ◌<◌, List, ◌≡◌, Bool, true, false, length, take, replicate, Err}
 use Rattle.packet.specs.Wire.{total_of, packet_at}
 use Rattle.room.specs.Room.{room_of}
 use Rattle.judge.specs.Verdict.{judge_of}
 use Rattle.grammar.specs.Grammar.{accepted_as}
-use Rattle.judge.specs.declared.Verdict.TheVariants.{Refused as NoProgram}
+use Rattle.refusal.specs.declared.Fault.{Fault}
 use Rattle.completed.specs.Completed.{has_of, added_of}
 use Rattle.collect.specs.Slots.{slots_in, none_of}
 use Rattle.machine.specs.Step.{started_of}
@@ -45,5 +45,5 @@ pub record Delivered (s : Sign) (mid id : ℕ) (body : List ℕ) : Type 0 where
   pub runs : (p : ℕ) → suc p ≡ total_of body → (endless : Bool) → judge_of body ≡ accepted_as endless
       → (answer_to s mid id body p).sign.run ≡ started_of (length body) s.run.settings
   -- with another the room is emptied and it stays Ready
-  pub empty : (p : ℕ) → suc p ≡ total_of body → (n place : ℕ) → judge_of body ≡ NoProgram n place → (answer_to s mid id body p).sign.room ≡ replicate 84 0
-  pub rests : (p : ℕ) → suc p ≡ total_of body → (n place : ℕ) → judge_of body ≡ NoProgram n place → (answer_to s mid id body p).sign.run ≡ s.run
+  pub empty : (p : ℕ) → suc p ≡ total_of body → (w : Fault) → judge_of body ≡ Err w → (answer_to s mid id body p).sign.room ≡ replicate 84 0
+  pub rests : (p : ℕ) → suc p ≡ total_of body → (w : Fault) → judge_of body ≡ Err w → (answer_to s mid id body p).sign.run ≡ s.run

@@ -1,10 +1,8 @@
 -- A normal packet that passed the reader, judged and joined: J4 to J12. The order is `hear`'s, and here are the records
 -- after it.
-use Rattle.std.specs.Prelude.{ℕ, List, length, replicate}
+use Rattle.std.specs.Prelude.{ℕ, List, length, replicate, Ok, Err}
 use Rattle.room.specs.Room.{room_of}
-use Rattle.judge.specs.Verdict.{judge_of}
-use Rattle.judge.specs.declared.Verdict.{Verdict}
-use Rattle.judge.specs.declared.Verdict.TheVariants.{Finite, Endless, Refused as NoProgram}
+use Rattle.judge.specs.Verdict.{Verdict, judge_of}
 use Rattle.completed.specs.Completed.{added_of}
 use Rattle.completed.specs.declared.Completed.{Completed}
 use Rattle.collect.specs.Slots.{Collection, slots_in, joined_of, none_of, stored_of}
@@ -27,9 +25,8 @@ stays_of s outcome = record { sign = s; outcome = outcome; body = replicate 84 0
 
 -- an accepted body runs; with another the sign stays Ready
 abbrev pub starts_of : Verdict → Sign → Sign → Sign
-starts_of Finite runs rests = runs
-starts_of Endless runs rests = runs
-starts_of (NoProgram n p) runs rests = rests
+starts_of (Ok e) runs rests = runs
+starts_of (Err w) runs rests = rests
 
 -- Stored: the collection with the packet in it
 abbrev pub stores_of : Sign → Collection → Received

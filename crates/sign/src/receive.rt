@@ -62,9 +62,8 @@ impl Sign {
         ensures { result ≡ starts_of verdict (running_of self len) (emptied_of self) }
     {
         match verdict {
-            Verdict::Finite => self.running(len),
-            Verdict::Endless => self.running(len),
-            Verdict::Refused(_, _) => self.emptied(),
+            Ok(_) => self.running(len),
+            Err(_) => self.emptied(),
         }
     }
 

@@ -6,7 +6,6 @@ ghost use Rattle.words.specs.Says.{outcome_of, program_of, place_of, received_by
 
 use crate::laying::lay;
 use hear::Outcome;
-use judge::Verdict;
 
 // The outcome of a receive as a number; 0 where it is refused.
 fn outcome_code(outcome: Outcome) -> u64
@@ -32,9 +31,8 @@ fn program_no(outcome: Outcome) -> u64
         Outcome::Repeat => 0,
         Outcome::Stored => 0,
         Outcome::Released(verdict) => match verdict {
-            Verdict::Finite => 0,
-            Verdict::Endless => 0,
-            Verdict::Refused(n, _) => n as u64,
+            Ok(_) => 0,
+            Err(fault) => fault.refusal.number() as u64,
         },
         Outcome::Refused(_) => 0,
     }
@@ -50,9 +48,8 @@ fn program_at(outcome: Outcome) -> u64
         Outcome::Repeat => 0,
         Outcome::Stored => 0,
         Outcome::Released(verdict) => match verdict {
-            Verdict::Finite => 0,
-            Verdict::Endless => 0,
-            Verdict::Refused(_, place) => place as u64,
+            Ok(_) => 0,
+            Err(fault) => fault.place as u64,
         },
         Outcome::Refused(_) => 0,
     }

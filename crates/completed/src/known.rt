@@ -8,14 +8,7 @@ use crate::Completed;
 pub(crate) fn among(ids: &[u8], id: u8) -> bool
     ensures { result ≡ is_among id ids.now }
 {
-    let mut i = 0;
-    while i < ids.len() {
-        if id == ids[i] {
-            return true;
-        }
-        i += 1;
-    }
-    false
+    ids.iter().any(|x| id == *x)
 }
 
 // One more than so many, and four at most.
@@ -40,11 +33,7 @@ impl Completed {
     pub fn last(self) -> u8
         ensures { result ≡ last_of self }
     {
-        if self.count == 0 {
-            return 0x41;
-        }
-        let ids = self.ids;
-        ids[0]
+        if self.count == 0 { 0x41 } else { self.ids[0] }
     }
 
     // Whether packets of this ID are Repeats.
@@ -52,11 +41,8 @@ impl Completed {
         ensures { result ≡ has_of self id }
     {
         let ids = self.ids;
-        let count = self.count as usize;
-        if 4 < count {
-            return among(&ids, id);
-        }
-        among(&ids[..count], id)
+        let known = (self.count as usize).min(4);
+        among(&ids[..known], id)
     }
 
     // The same after this ID is completed: it is the newest, and the fifth is forgotten.

@@ -11,17 +11,12 @@ fn differ(ids: [u8; 4], count: usize) -> bool
     requires { count ≤ 4 }
     ensures { result ≡ differ_of (take count ids) }
 {
-    let mut i = 0;
-    while i < count {
+    for i in 0..count {
         let id = ids[i];
-        if 0x3f < id {
-            return false;
-        }
         let from = i + 1;
-        if among(&ids[from..count], id) {
+        if 0x3f < id || among(&ids[from..count], id) {
             return false;
         }
-        i += 1;
     }
     true
 }
@@ -33,12 +28,6 @@ impl Completed {
     {
         let ids = self.ids;
         let count = self.count as usize;
-        if 4 < count {
-            return false;
-        }
-        if !differ(ids, count) {
-            return false;
-        }
-        clean(&ids, count)
+        count <= 4 && differ(ids, count) && clean(&ids, count)
     }
 }

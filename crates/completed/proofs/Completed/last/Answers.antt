@@ -11,8 +11,8 @@ returns-then-self-eq0 c =
     let a = c.args.self in
     sym (newest_none a.count a.ids c.if-self-eq0.true)
 
-pub returns : goal.returns
+pub returns-else-self-eq0 : goal.returns-else-self-eq0
 unfolding last_of
-returns c =
+returns-else-self-eq0 c =
     let a = c.args.self in
     sym (newest_some a.count a.ids (search rules) c.if-self-eq0.false)

@@ -1,22 +1,13 @@
-use borrow.Author.Rules.{rules}
-use Rattle.completed.proofs.Lists.{among_here, among_next, among_past}
-use mathlib.Core.Path.{sym, ◌∙◌}
+-- `among` asks whether any of them is the ID.
+use mathlib.Core.Path.{◌∙◌}
+use Rattle.std.proofs.Common.{eqb, rules, tests}
+use Rattle.std.proofs.lemmas.Iterator.{YieldsList-from_slice}
+use Rattle.std.proofs.lemmas.Iterator.Search.{any_from_yields_List}
+use Rattle.completed.proofs.Lists.{any_among}
 use Rattle.completed.proofs.known.among.Goals as goal
-
-pub returns-then-id-ids : goal.returns-then-id-ids
-returns-then-id-ids c =
-    let l = c.loop-i in
-    let a = c.args in
-    sym (among_here a.id a.ids.now l.i (search rules) c.if-id-ids.true) ∙ l.invariant.1
-
-pub loop-i-preserved : goal.loop-i-preserved
-loop-i-preserved c =
-    let l = c.loop-i in
-    let a = c.args in
-    (search rules, sym (among_next a.id a.ids.now l.i (search rules) c.if-id-ids.false) ∙ l.invariant.1)
 
 pub returns : goal.returns
 returns c =
-    let l = c.loop-i in
-    let a = c.args in
-    sym (among_past a.id a.ids.now l.i (search rules)) ∙ l.invariant.1
+    let ids = c.args.ids.now in
+    let id = c.args.id in
+    any_from_yields_List (eqb id) _ _ c.any.result c.any.ensures.ran (YieldsList-from_slice ids cc) (λ x b q k. search (rules, tests)) ∙ any_among id ids

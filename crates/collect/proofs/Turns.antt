@@ -8,10 +8,11 @@ use native.Mathlib.Omega.{arith}
 use lib.Dec.{eqb, leb}
 use lib.ListN.{length, get_or, take, drop, length-drop, drop_of_length-le, take-append-drop}
 use lib.Seq.{drop-cons, drop-drop}
+use Rattle.std.specs.Prelude.{not, cond}
+use Rattle.std.specs.List.{filter}
 use borrow.Author.Tests.{leb-true, le-leb, eqb-true}
 use Rattle.basis.proofs.Bytes.{drop_take}
 use Rattle.basis.specs.Choice.{when, ◌and◌, ◌or◌}
-use Rattle.basis.proofs.Bytes.{cut_length}
 use Rattle.basis.proofs.Choices.{when_true}
 use Rattle.room.specs.Room.{zeros_of}
 use Rattle.collect.specs.Slots.{rule_of, one_of, held_of, slots_of}
@@ -85,14 +86,16 @@ pub slots_past : (total : ℕ) (lens room : List ℕ) (i : ℕ) → length lens 
 unfolding slots_of
 slots_past total lens room i h = ap (λ (l : List ℕ). slots_of total i l (drop (14 * i) room)) (drop_of_length-le lens h)
 
--- the positions held from one on
-pub held_next : (lens : List ℕ) (i : ℕ) → i < length lens → held_of (drop i lens) ≡ one_of (get_or lens i 0) + held_of (drop (i + 1) lens)
+-- the positions held are those of a length that isn't 0
+pub held_count : (lens : List ℕ) → length (filter (λ x. not (eqb x 0)) lens) ≡ held_of lens
 unfolding held_of
-held_next lens i h = rw (add-one i, drop-cons lens i 0)
-
-pub held_past : (lens : List ℕ) (i : ℕ) → length lens ≤ i → held_of (drop i lens) ≡ 0
-unfolding held_of
-held_past lens i h = rw (drop_of_length-le lens h)
+held_count [] = refl
+held_count (len ∷ lens) = go (eqb len 0) (held_count lens)
+  where
+    go : (t : Bool) → length (filter (λ x. not (eqb x 0)) lens) ≡ held_of lens
+        → length (cond (not t) (len ∷ filter (λ x. not (eqb x 0)) lens) (filter (λ x. not (eqb x 0)) lens)) ≡ when t 0 1 + held_of lens
+    go true e = omega arith
+    go false e = omega arith
 
 pub one_most : (len : ℕ) → one_of len ≤ 1
 one_most len = go (eqb len 0)
@@ -100,12 +103,6 @@ one_most len = go (eqb len 0)
     go : (t : Bool) → when t 0 1 ≤ 1
     go true = omega arith
     go false = omega arith
-
--- a slot that the code lends has 14 bytes
-pub slot_length : (room : List ℕ) (i : ℕ) → 14 * i + 14 ≤ length room → length (take (14 * i + 14 - 14 * i) (drop (14 * i) room)) ≡ 14
-slot_length room i h =
-    let e : 14 * i + 14 - 14 * i ≡ 14 = omega arith in
-    ap (λ (n : ℕ). length (take n (drop (14 * i) room))) e ∙ cut_length room (14 * i) 14 h
 
 -- the room behind a slot's data, as the code lends it
 pub slot_cut : (room : List ℕ) (i len : ℕ) → len ≤ 14

@@ -8,17 +8,7 @@ use crate::Slots;
 pub fn same(one: &[u8], other: &[u8]) -> bool
     ensures { result ≡ same_of one.now other.now }
 {
-    if one.len() != other.len() {
-        return false;
-    }
-    let mut i = 0;
-    while i < one.len() {
-        if one[i] != other[i] {
-            return false;
-        }
-        i += 1;
-    }
-    true
+    one == other
 }
 
 // Slots of this ID and total that hold nothing yet.

@@ -14,35 +14,19 @@ fn rule(total: u8, position: usize, len: u8) -> bool
 {
     let count = total as usize;
     if count <= position {
-        return len == 0;
+        len == 0
+    } else if count - position == 1 {
+        len <= 14
+    } else {
+        matches!(len, 0 | 14)
     }
-    if count - position <= 1 {
-        return len <= 14;
-    }
-    if len == 0 {
-        return true;
-    }
-    len == 14
-}
-
-// 1 for a position that is held.
-fn one(len: u8) -> usize
-    ensures { result ≡ one_of len }
-{
-    if len == 0 { 0 } else { 1 }
 }
 
 // How many positions are held.
 pub fn held(lens: [u8; 6]) -> usize
     ensures { result ≡ held_of lens }
 {
-    let mut n = 0;
-    let mut i = 0;
-    while i < 6 {
-        n += one(lens[i]);
-        i += 1;
-    }
-    n
+    lens.iter().filter(|len| **len != 0).count()
 }
 
 // Whether a slot holds zeros behind its data; a full one is not looked at.
@@ -50,42 +34,29 @@ fn unused(slot: &[u8], len: u8) -> bool
     requires { length slot.now ≡ 14 }
     ensures { result ≡ zeros_of (drop len slot.now) }
 {
-    if len == 14 {
-        return true;
-    }
-    clean(slot, len as usize)
+    len == 14 || clean(slot, len as usize)
 }
 
 // Whether each slot obeys the packet rules, with zeros after its data.
-fn ruled(total: u8, lens: [u8; 6], room: &[u8]) -> bool
-    requires { length room.now ≡ 84 }
+fn ruled(total: u8, lens: [u8; 6], room: &[u8; 84]) -> bool
     ensures { result ≡ slots_of total 0 lens room.now }
 {
-    let mut i = 0;
-    while i < 6 {
+    for i in 0..6 {
         let len = lens[i];
-        if !rule(total, i, len) {
-            return false;
-        }
         let from = 14 * i;
         let to = from + 14;
-        if !unused(&room[from..to], len) {
+        if !(rule(total, i, len) && unused(&room[from..to], len)) {
             return false;
         }
-        i += 1;
     }
     true
 }
 
 // The same where nothing is collected: no lengths, and zeros all over the room.
-fn blank(lens: [u8; 6], room: &[u8]) -> bool
-    requires { length room.now ≡ 84 }
+fn blank(lens: [u8; 6], room: &[u8; 84]) -> bool
     ensures { result ≡ slots_of 0 0 lens room.now }
 {
-    if !clean(&lens, 0) {
-        return false;
-    }
-    clean(room, 0)
+    clean(&lens, 0) && clean(room, 0)
 }
 
 impl Slots {
@@ -94,13 +65,7 @@ impl Slots {
         ensures { result ≡ nothing_of self }
     {
         let lens = self.lens;
-        if self.id != 0 {
-            return false;
-        }
-        if self.total != 0 {
-            return false;
-        }
-        clean(&lens, 0)
+        self.id == 0 && self.total == 0 && clean(&lens, 0)
     }
 
     // Whether the slots are sound with this room, beside these completed IDs.
@@ -111,27 +76,12 @@ impl Slots {
         let total = self.total;
         let lens = self.lens;
         if total == 0 {
-            if id != 0 {
-                return false;
-            }
-            return blank(lens, room);
+            return id == 0 && blank(lens, room);
         }
-        if 0x3f < id {
-            return false;
-        }
-        if completed.has(id) {
-            return false;
-        }
-        if 6 < total {
-            return false;
-        }
-        let count = held(lens);
-        if count == 0 {
-            return false;
-        }
-        if total as usize <= count {
-            return false;
-        }
-        ruled(total, lens, room)
+        id <= 0x3f
+            && !completed.has(id)
+            && total <= 6
+            && (1..total as usize).contains(&held(lens))
+            && ruled(total, lens, room)
     }
 }

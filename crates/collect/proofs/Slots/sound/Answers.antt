@@ -1,42 +1,28 @@
 -- `sound` tests part after part; the first that fails decides.
 use Prim.Native.Nat.{ℕ}
 use mathlib.Core.Path.{◌≡◌, sym, ap, ◌∙◌}
-use Rattle.collect.specs.Slots.{slots_of}
+use native.Mathlib.Omega.{arith}
+use Rattle.std.proofs.lemmas.Grind.{common_steps}
 use Rattle.basis.proofs.Tests.{tests}
+use Rattle.collect.specs.Slots.{slots_of}
 use Rattle.collect.specs.Sound.{sound_of}
 use Rattle.collect.proofs.Slots.sound.Goals as goal
 
-pub returns-then-id-ne0 : goal.returns-then-id-ne0
+pub returns-then-id-eq0 : goal.returns-then-id-eq0
 unfolding sound_of
-returns-then-id-ne0 c = search tests
-
-pub returns-then-total-eq0 : goal.returns-then-total-eq0
-unfolding sound_of
-returns-then-total-eq0 c =
+returns-then-id-eq0 c =
     let a = c.args in
     let none : a.self.total ≡ 0 = c.if-total-eq0.true in
     search (tests, c.blank.ensures ∙ ap (λ (t : ℕ). slots_of t 0 a.self.lens a.room.now) (sym none))
 
-pub returns-then-id-gt63 : goal.returns-then-id-gt63
+pub returns-else-id-eq0 : goal.returns-else-id-eq0
 unfolding sound_of
-returns-then-id-gt63 c = search tests
+returns-else-id-eq0 c = search tests
 
-pub returns-then-has : goal.returns-then-has
+pub returns-then-contains : goal.returns-then-contains
 unfolding sound_of
-returns-then-has c = search (tests, sym c.has.ensures ∙ c.if-has.true)
+returns-then-contains c = grind (arith, common_steps)
 
-pub returns-then-total-gt6 : goal.returns-then-total-gt6
+pub returns-else-contains : goal.returns-else-contains
 unfolding sound_of
-returns-then-total-gt6 c = search (tests, sym c.has.ensures ∙ c.if-has.false)
-
-pub returns-then-count-eq0 : goal.returns-then-count-eq0
-unfolding sound_of
-returns-then-count-eq0 c = search (tests, sym c.has.ensures ∙ c.if-has.false, ← c.held-count.ensures)
-
-pub returns-then-total-count : goal.returns-then-total-count
-unfolding sound_of
-returns-then-total-count c = search (tests, sym c.has.ensures ∙ c.if-has.false, ← c.held-count.ensures)
-
-pub returns : goal.returns
-unfolding sound_of
-returns c = search (tests, sym c.has.ensures ∙ c.if-has.false, ← c.held-count.ensures, c.ruled.ensures)
+returns-else-contains c = grind (arith, common_steps)

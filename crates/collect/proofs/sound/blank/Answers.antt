@@ -10,17 +10,19 @@ use Rattle.room.specs.Room.{zeros_of}
 use Rattle.collect.proofs.Turns.{blank_slots}
 use Rattle.collect.proofs.sound.blank.Goals as goal
 
-pub returns-then-not-clean : goal.returns-then-not-clean
-returns-then-not-clean c =
+pub returns-then-clean : goal.returns-then-clean
+returns-then-clean c =
     let a = c.args in
     let lens : length a.lens ≡ 6 = search rules in
-    let size : length a.room.now ≡ 14 * length a.lens = omega (arith, c.requires) in
-    sym (blank_slots 0 a.lens a.room.now size ∙ ap (λ (t : Bool). t and zeros_of a.room.now) (sym c.clean.ensures ∙ c.if-not-clean.true))
+    let room : length a.room.now ≡ 84 = search rules in
+    let size : length a.room.now ≡ 14 * length a.lens = omega arith in
+    c.clean-then-clean.ensures
+    ∙ sym (blank_slots 0 a.lens a.room.now size ∙ ap (λ (t : Bool). t and zeros_of a.room.now) (sym c.clean.ensures ∙ c.if-clean.true))
 
-pub returns : goal.returns
-returns c =
+pub returns-else-clean : goal.returns-else-clean
+returns-else-clean c =
     let a = c.args in
     let lens : length a.lens ≡ 6 = search rules in
-    let size : length a.room.now ≡ 14 * length a.lens = omega (arith, c.requires) in
-    c.clean-2.ensures
-    ∙ sym (blank_slots 0 a.lens a.room.now size ∙ ap (λ (t : Bool). t and zeros_of a.room.now) (sym c.clean.ensures ∙ c.if-not-clean.false))
+    let room : length a.room.now ≡ 84 = search rules in
+    let size : length a.room.now ≡ 14 * length a.lens = omega arith in
+    c.if-clean.false ∙ sym (blank_slots 0 a.lens a.room.now size ∙ ap (λ (t : Bool). t and zeros_of a.room.now) (sym c.clean.ensures ∙ c.if-clean.false))

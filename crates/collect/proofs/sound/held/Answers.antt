@@ -1,22 +1,14 @@
-use borrow.Author.Rules.{rules}
-use Rattle.collect.proofs.Turns.{held_next, held_past, one_most}
-use lib.ListN.{length, get_or}
-use native.Mathlib.Omega.{arith}
-use mathlib.Core.Path.{◌≡◌}
+-- `held` counts the lengths that aren't 0.
+use mathlib.Core.Path.{◌∙◌}
+use Rattle.std.proofs.Common.{eqb, not, rules, tests}
+use Rattle.std.proofs.lemmas.Iterator.{YieldsList-from_slice}
+use Rattle.std.proofs.lemmas.Iterator.Consumers.{count_from_yields_List, YieldsList-from_filter}
+use Rattle.collect.proofs.Turns.{held_count}
 use Rattle.collect.proofs.sound.held.Goals as goal
-
-pub overflow_add-n : goal.overflow_add-n
-overflow_add-n c = omega (arith, c.one-n.ensures, one_most (get_or c.args.lens c.loop-i.i 0))
-
-pub loop-i-preserved : goal.loop-i-preserved
-loop-i-preserved c =
-    let s = c.args.lens in
-    let l : length s ≡ 6 = search rules in
-    let i = c.loop-i.i in
-    omega (arith, c.one-n.ensures, one_most (get_or s i 0), held_next s i (omega arith))
 
 pub returns : goal.returns
 returns c =
     let s = c.args.lens in
-    let l : length s ≡ 6 = search rules in
-    omega (arith, held_past s c.loop-i.i (omega arith))
+    count_from_yields_List c.filter.result _ c.count.ensures.ran
+    (YieldsList-from_filter _ (λ x. not (eqb x 0)) (YieldsList-from_slice s cc) c.filter.ensures.closure (λ x b q k. search (rules, tests)))
+    ∙ held_count s

@@ -14,40 +14,15 @@ impl Font {
     pub(crate) fn of(letter: u8) -> Font
         ensures { result ≡ font_of letter }
     {
-        if letter == b'D' {
-            return Font {
-                columns: 6,
-                blank: 1,
-            };
-        }
-        if letter == b'd' {
-            return Font {
-                columns: 7,
-                blank: 2,
-            };
-        }
-        if letter == b'B' {
-            return Font {
-                columns: 8,
-                blank: 2,
-            };
-        }
-        if letter == b'b' {
-            return Font {
-                columns: 9,
-                blank: 3,
-            };
-        }
-        if letter == b'C' {
-            return Font {
-                columns: 5,
-                blank: 1,
-            };
-        }
-        Font {
-            columns: 6,
-            blank: 2,
-        }
+        let (columns, blank) = match letter {
+            b'D' => (6, 1),
+            b'd' => (7, 2),
+            b'B' => (8, 2),
+            b'b' => (9, 3),
+            b'C' => (5, 1),
+            _ => (6, 2),
+        };
+        Font { columns, blank }
     }
 
     // The font behind a tilde and a letter: that of the letter; `G` leaves the font.
@@ -55,8 +30,9 @@ impl Font {
         ensures { result ≡ switched_of self letter }
     {
         if letter == b'G' {
-            return self;
+            self
+        } else {
+            Font::of(letter)
         }
-        Font::of(letter)
     }
 }

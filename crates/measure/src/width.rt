@@ -1,5 +1,5 @@
 // A text measured: its two widths (S15), whether it fits (S16), and where a shown text starts (S17).
-ghost use Rattle.std.specs.Prelude.{◌≡◌, ◌+◌, ◌≤◌, min, take, drop};
+ghost use Rattle.std.specs.Prelude.{◌≡◌, ◌≤◌, take, drop};
 ghost use Rattle.measure.specs.Width.{with_byte, widths_of, widest, counted_of, fits_of, column_of};
 ghost use Rattle.measure.specs.Capped.{most, topped_of};
 
@@ -28,16 +28,6 @@ pub struct Measured {
     pub edge: usize,
 }
 
-// The lower of two counts of columns.
-fn least(one: usize, other: usize) -> usize
-    ensures { result ≡ min one other }
-{
-    if one <= other {
-        return one;
-    }
-    other
-}
-
 impl Measured {
     // One byte more. The columns are counted to 1,003, so that the lit width of a text that is wider counts to 1,000 too.
     fn with(self, x: u8) -> Measured
@@ -45,23 +35,27 @@ impl Measured {
         ensures { result ≡ topped_of (with_byte self x) }
     {
         let font = self.font;
-        let mut next = self;
-        next.last = x;
         if self.last == TILDE {
-            next.font = font.switched(x);
-            return next;
+            return Measured {
+                font: font.switched(x),
+                last: x,
+                ..self
+            };
         }
         if x == TILDE {
-            return next;
+            return Measured { last: x, ..self };
         }
-        if 0x80 <= x {
-            next.whole = least(self.whole + 1, WIDEST + 3);
-            next.edge = 0;
-            return next;
+        let (columns, edge) = if 0x80 <= x {
+            (1, 0)
+        } else {
+            (font.columns, font.blank)
+        };
+        Measured {
+            font,
+            last: x,
+            whole: (self.whole + columns).min(WIDEST + 3),
+            edge,
         }
-        next.whole = least(self.whole + font.columns, WIDEST + 3);
-        next.edge = font.blank;
-        next
     }
 }
 
@@ -69,20 +63,18 @@ impl Measured {
 pub fn measure(text: &[u8]) -> Widths
     ensures { result ≡ counted_of (widths_of text.now) }
 {
-    let mut at: usize = 0;
     let mut got = Measured {
         font: Font::of(b'D'),
         last: 0,
         whole: 0,
         edge: 0,
     };
-    while at < text.len() {
-        got = got.with(text[at]);
-        at += 1;
+    for x in text {
+        got = got.with(*x);
     }
     Widths {
-        whole: least(got.whole, WIDEST),
-        lit: least(got.whole - got.edge, WIDEST),
+        whole: got.whole.min(WIDEST),
+        lit: (got.whole - got.edge).min(WIDEST),
     }
 }
 
@@ -93,7 +85,7 @@ pub fn measure_at(body: &[u8], place: usize, len: usize) -> Widths
     if body.len() < place {
         return Widths { whole: 0, lit: 0 };
     }
-    let count = least(body.len() - place, len);
+    let count = len.min(body.len() - place);
     measure(&body[place..place + count])
 }
 
@@ -108,8 +100,5 @@ pub fn fits(widths: Widths) -> bool
 pub fn start_column(widths: Widths) -> usize
     ensures { result ≡ column_of widths }
 {
-    if COLUMNS < widths.lit {
-        return 0;
-    }
-    (COLUMNS - widths.lit) / 2
+    COLUMNS.saturating_sub(widths.lit) / 2
 }

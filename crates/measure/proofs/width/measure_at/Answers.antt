@@ -16,8 +16,8 @@ pub returns : goal.returns
 returns c =
     let a = c.args in
     let b = a.body.now in
-    let n = c.least-count.result in
-    let e = c.least-count.ensures in
+    let n = c.min-count.result in
+    let e = c.min-count.ensures in
     let all : a.place + n - a.place ≡ min (length b - a.place) a.len = omega arith in
     c.measure.ensures
     ∙ ap (λ (k : ℕ). counted_of (widths_of (take k (drop a.place b)))) all

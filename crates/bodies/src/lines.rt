@@ -30,7 +30,7 @@ fn line(rt: &impl Print, text: &[u8]) -> io::Result<()> {
     let [what, _, tens, ones, _, written @ ..] = text else {
         return Ok(());
     };
-    let place = digit(*tens) as usize * 10 + digit(*ones) as usize;
+    let place = usize::from(digit(*tens)) * 10 + usize::from(digit(*ones));
     let body = decode(written);
     match what {
         b'j' => judged(rt, body.as_slice()),

@@ -1,6 +1,5 @@
 // One line for each thing tried: the bytes, then the answer in words.
 use judge::{Ending, Standing};
-use program::Command;
 use std::{fmt, io};
 
 // Bytes in print: one that can't be printed as two hexadecimal digits between < and >.
@@ -49,15 +48,10 @@ pub(crate) fn measured(rt: &impl Print, text: &[u8]) -> io::Result<()> {
 pub(crate) fn read(rt: &impl Print, body: &[u8], place: usize) -> io::Result<()> {
     let bytes = Bytes(body);
     match program::read_command(body, place) {
-        Ok(
-            Command {
-                kind,
-                number,
-                text,
-                len,
-                next,
-            },
-        ) => { println!(rt; "{bytes} at {place}: {kind} {number} {text} {len} {next}") }
+        Ok(c) => println!(rt;
+            "{bytes} at {place}: {} {} {} {} {}",
+            c.kind, c.number, c.text, c.len, c.next
+        ),
         Err(fault) => println!(rt; "{bytes} at {place}: {fault}"),
     }
 }

@@ -95,8 +95,8 @@ pub(crate) fn repeated(rt: &impl Print, sign: Sign, text: &[u8]) -> io::Result<S
     if let [_, _, place, len, _, body @ ..] = text {
         let stretch = repeat(
             body,
-            digit(*place) as usize,
-            digit(*len) as usize,
+            usize::from(digit(*place)),
+            usize::from(digit(*len)),
             b"standing line",
         );
         rt.write_all(stretch)?;

@@ -5,7 +5,7 @@ use mathlib.Core.List.{List, [], ◌∷◌}
 use mathlib.Core.Path.{◌≡◌, refl, sym, ap, ◌∙◌, subst}
 use native.Mathlib.Omega.{arith}
 use lib.ListN.{length, take}
-use Rattle.basis.specs.Told.{Told}
+use Rattle.basis.specs.Told.{Told, no_at}
 use Rattle.basis.proofs.Choices.{when_true, when_false}
 use Rattle.perform.specs.Settings.{sound_of}
 use Rattle.perform.specs.declared.settings.Settings.{Settings}

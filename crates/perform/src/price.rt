@@ -33,21 +33,10 @@ fn does(kind: Kind) -> Doing
 {
     match kind {
         Kind::II => Doing::Shows(0),
-        Kind::IA => Doing::Shows(7),
-        Kind::IB => Doing::Shows(7),
+        Kind::IA | Kind::IB => Doing::Shows(7),
         Kind::S => Doing::Streams,
         Kind::W => Doing::Waits,
-        Kind::L => Doing::Rests,
-        Kind::E => Doing::Rests,
-        Kind::F => Doing::Rests,
-        Kind::R => Doing::Rests,
-        Kind::XS => Doing::Rests,
-        Kind::XF => Doing::Rests,
-        Kind::P => Doing::Rests,
-        Kind::Scans => Doing::Rests,
-        Kind::XD => Doing::Rests,
-        Kind::XB => Doing::Rests,
-        Kind::Y => Doing::Rests,
+        _ => Doing::Rests,
     }
 }
 
@@ -63,26 +52,20 @@ fn streams(widths: Widths) -> Doing
     ensures { result ≡ streams_of widths }
 {
     if widths.whole == 0 {
-        return Doing::Rests;
+        Doing::Rests
+    } else {
+        Doing::Streams
     }
-    Doing::Streams
 }
 
 // What a command does with a text of these widths: where that is to be shown but doesn't fit, it acts as `S` (S18).
 fn acts(kind: Kind, widths: Widths) -> Doing
     ensures { result ≡ acts_of (doing_of kind) widths }
 {
-    let doing = does(kind);
-    match doing {
-        Doing::Shows(n) => {
-            if fits(widths) {
-                return Doing::Shows(n);
-            }
-            streams(widths)
-        }
+    match does(kind) {
+        Doing::Shows(_) if !fits(widths) => streams(widths),
         Doing::Streams => streams(widths),
-        Doing::Waits => Doing::Waits,
-        Doing::Rests => Doing::Rests,
+        doing => doing,
     }
 }
 
@@ -93,8 +76,7 @@ fn scans(doing: Doing, widths: Widths, each: u8) -> Scans
     match doing {
         Doing::Shows(n) => Scans(n as u64),
         Doing::Streams => shifts(widths).scans(each),
-        Doing::Waits => Scans(0),
-        Doing::Rests => Scans(0),
+        Doing::Waits | Doing::Rests => Scans(0),
     }
 }
 
@@ -103,8 +85,7 @@ fn millis(doing: Doing, number: u8, scans: Scans, pace: u8) -> Millis
     ensures { result.0 ≡ millis_of doing number scans.0 pace }
 {
     match doing {
-        Doing::Shows(_) => scans.millis(pace),
-        Doing::Streams => scans.millis(pace),
+        Doing::Shows(_) | Doing::Streams => scans.millis(pace),
         Doing::Waits => Millis::tenths(number),
         Doing::Rests => Millis(0),
     }
@@ -116,9 +97,7 @@ fn column(doing: Doing, widths: Widths) -> usize
 {
     match doing {
         Doing::Shows(_) => start_column(widths),
-        Doing::Streams => 0,
-        Doing::Waits => 0,
-        Doing::Rests => 0,
+        _ => 0,
     }
 }
 
@@ -127,10 +106,8 @@ fn shown(doing: Doing, kind: Kind) -> Kind
     ensures { result ≡ shown_of doing kind }
 {
     match doing {
-        Doing::Shows(_) => kind,
         Doing::Streams => Kind::S,
-        Doing::Waits => kind,
-        Doing::Rests => kind,
+        _ => kind,
     }
 }
 

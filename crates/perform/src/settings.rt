@@ -18,13 +18,11 @@ pub struct Settings {
 fn forced(number: u8) -> u8
     ensures { result ≡ forced_of number }
 {
-    if number < 2 {
-        return 0;
+    match number {
+        0 | 1 => 0,
+        2..=31 => number,
+        _ => 31,
     }
-    if 31 < number {
-        return 31;
-    }
-    number
 }
 
 impl Settings {
@@ -32,73 +30,37 @@ impl Settings {
     pub fn sound(self) -> bool
         ensures { result ≡ sound_of self }
     {
-        if self.pace < 1 {
-            return false;
-        }
-        if 20 < self.pace {
-            return false;
-        }
-        if self.scans < 1 {
-            return false;
-        }
-        if 6 < self.scans {
-            return false;
-        }
-        if 1 < self.sink {
-            return false;
-        }
-        if self.dim < 1 {
-            return false;
-        }
-        if self.bright == 0 {
-            return true;
-        }
-        if self.bright < 2 {
-            return false;
-        }
-        self.bright <= 31
+        (1..=20).contains(&self.pace)
+            && (1..=6).contains(&self.scans)
+            && self.sink <= 1
+            && 1 <= self.dim
+            && (self.bright == 0 || (2..=31).contains(&self.bright))
     }
 
     // The settings behind a command of this kind and number.
     pub fn behind(self, kind: Kind, number: u8) -> Settings
         ensures { result ≡ behind_of kind number self }
     {
-        let mut next = self;
         match kind {
-            Kind::P => {
-                next.pace = number;
-                next
-            }
-            Kind::Scans => {
-                next.scans = number;
-                next
-            }
-            Kind::XS => {
-                next.sink = 1;
-                next
-            }
-            Kind::XF => {
-                next.sink = 0;
-                next
-            }
-            Kind::XD => {
-                next.dim = number;
-                next
-            }
-            Kind::XB => {
-                next.bright = forced(number);
-                next
-            }
-            Kind::II => next,
-            Kind::IA => next,
-            Kind::IB => next,
-            Kind::S => next,
-            Kind::L => next,
-            Kind::E => next,
-            Kind::F => next,
-            Kind::R => next,
-            Kind::W => next,
-            Kind::Y => next,
+            Kind::P => Settings {
+                pace: number,
+                ..self
+            },
+            Kind::Scans => Settings {
+                scans: number,
+                ..self
+            },
+            Kind::XS => Settings { sink: 1, ..self },
+            Kind::XF => Settings { sink: 0, ..self },
+            Kind::XD => Settings {
+                dim: number,
+                ..self
+            },
+            Kind::XB => Settings {
+                bright: forced(number),
+                ..self
+            },
+            _ => self,
         }
     }
 }

@@ -9,10 +9,8 @@ fn put(word: u64, out: &mut [u8])
     requires { 4 ≤ length out.old }
     ensures { out.new ≡ laid (word_of word) out.old }
 {
-    out[0] = (word % 256) as u8;
-    out[1] = (word / 256 % 256) as u8;
-    out[2] = (word / 65536 % 256) as u8;
-    out[3] = (word / 16777216 % 256) as u8;
+    let bytes = word.to_le_bytes();
+    out[..4].copy_from_slice(&bytes[..4]);
 }
 
 // Writes words in a row at the buffer's front, if it has room for all.
@@ -22,10 +20,8 @@ pub(crate) fn lay(words: &[u64], out: &mut [u8])
     if out.len() / 4 < words.len() {
         return;
     }
-    let mut i = 0;
-    while i < words.len() {
+    for (i, word) in words.iter().enumerate() {
         let at = 4 * i;
-        put(words[i], &mut out[at..]);
-        i += 1;
+        put(*word, &mut out[at..]);
     }
 }

@@ -1,17 +1,10 @@
--- `put` stores four bytes in a row, which lays them.
-use native.Mathlib.Omega.{arith}
-use lib.ListN.{length-set}
-use Rattle.basis.proofs.Laid.{laid_sets}
-use Rattle.words.specs.Words.{word_of}
+-- `put` copies the lowest four bytes to the front.
+use mathlib.Core.List.{◌++◌}
+use mathlib.Core.Path.{ap, ◌∙◌}
+use lib.ListN.{take, drop}
+use Rattle.basis.specs.Bytes.{laid}
 use Rattle.words.proofs.laying.put.Goals as goal
 
-pub bounds-out-1 : goal.bounds-out-1
-bounds-out-1 c = simp length-set (omega arith)
-
-pub bounds-out-2 : goal.bounds-out-2
-bounds-out-2 c = simp length-set (omega arith)
-
 pub returns : goal.returns
-returns c =
-    let a = c.args in
-    laid_sets (word_of a.word) a.out.now c.requires
+unfolding laid
+returns c = ap (λ bytes. bytes ++ drop 4 c.args.out.now) (c.copy_from_slice.ensures.after ∙ ap (take 4) c.to_le_bytes-bytes.ensures)

@@ -1,6 +1,5 @@
 // A body sent to a new sign, and its first step, for the rules' examples of columns and scans (S16 to S20).
 use machine::Answer;
-use packet::Written;
 use sign::Sign;
 use std::io;
 
@@ -8,8 +7,8 @@ use std::io;
 fn carried(sign: Sign, body: &[u8], position: u8) -> Sign {
     let mut out = [0u8; 21];
     match packet::write_packet(0x80, 5, body, position, &mut out) {
-        Written::Wrote(n) => sign.receive(0x80, &out[..n]).sign,
-        Written::Refused(_) => sign,
+        Ok(n) => sign.receive(0x80, &out[..n]).sign,
+        Err(_) => sign,
     }
 }
 

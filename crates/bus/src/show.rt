@@ -3,7 +3,7 @@ use hear::Outcome;
 use input::digit;
 use judge::Ending;
 use machine::Answer;
-use packet::Written;
+use refusal::Refusal;
 use repeater::repeat;
 use sign::{Cleared, Received, Sign, Stepped};
 use std::io;
@@ -14,16 +14,16 @@ fn front(rt: &impl Print, bytes: &[u8], n: usize) -> io::Result<()> {
 }
 
 // The outcome of a receive or a reset, and what a released body was judged.
-fn outcome(rt: &impl Print, what: Outcome) -> io::Result<()> {
+fn outcome(rt: &impl Print, what: Result<Outcome, Refusal>) -> io::Result<()> {
     match what {
-        Outcome::Query => print!(rt; "query"),
-        Outcome::Reset => print!(rt; "reset"),
-        Outcome::Repeat => print!(rt; "repeat"),
-        Outcome::Stored => print!(rt; "stored"),
-        Outcome::Released(Ok(Ending::Finite)) => print!(rt; "released finite "),
-        Outcome::Released(Ok(Ending::Endless)) => print!(rt; "released endless "),
-        Outcome::Released(Err(fault)) => print!(rt; "released {fault} "),
-        Outcome::Refused(n) => print!(rt; "refused {n}"),
+        Ok(Outcome::Query) => print!(rt; "query"),
+        Ok(Outcome::Reset) => print!(rt; "reset"),
+        Ok(Outcome::Repeat) => print!(rt; "repeat"),
+        Ok(Outcome::Stored) => print!(rt; "stored"),
+        Ok(Outcome::Released(Ok(Ending::Finite))) => print!(rt; "released finite "),
+        Ok(Outcome::Released(Ok(Ending::Endless))) => print!(rt; "released endless "),
+        Ok(Outcome::Released(Err(fault))) => print!(rt; "released {fault} "),
+        Err(refusal) => print!(rt; "{refusal}"),
     }
 }
 
@@ -65,13 +65,13 @@ pub(crate) fn stepped(rt: &impl Print, went: Stepped) -> io::Result<Sign> {
 pub(crate) fn replied(rt: &impl Print, sign: Sign, aux: bool) -> io::Result<Sign> {
     let mut out = [0u8; 8];
     match sign.reply(0x80, aux, &mut out) {
-        Written::Wrote(_) => {
+        Ok(_) => {
             for x in out {
                 print!(rt; "{x:02x}")?;
             }
             println!(rt)?;
         }
-        Written::Refused(n) => println!(rt; "refused {n}")?,
+        Err(refusal) => println!(rt; "{refusal}")?,
     }
     Ok(sign)
 }
@@ -80,12 +80,12 @@ pub(crate) fn replied(rt: &impl Print, sign: Sign, aux: bool) -> io::Result<Sign
 pub(crate) fn copied(rt: &impl Print, sign: Sign) -> io::Result<Sign> {
     let mut out = [0u8; 20];
     match sign.copy_body(&mut out) {
-        Written::Wrote(n) => {
+        Ok(n) => {
             print!(rt; "copied {n} ")?;
             front(rt, &out, n)?;
             println!(rt)?;
         }
-        Written::Refused(n) => println!(rt; "refused {n}")?,
+        Err(refusal) => println!(rt; "{refusal}")?,
     }
     Ok(sign)
 }

@@ -15,7 +15,9 @@ use Rattle.basis.proofs.Choices.{when_true, when_false}
 use Rattle.packet.specs.Mid.{is_forbidden, mid_row}
 use Rattle.packet.specs.Write.{Writes, buffer_of, written_of}
 use Rattle.packet.proofs.Numbers.{rows_told}
-use Rattle.std.specs.Prelude.{Result}
+use Rattle.std.specs.Prelude.{Result, Ok, Err}
+use Rattle.refusal.specs.declared.Refusal.{Refusal}
+use Rattle.refusal.specs.declared.Refusal.TheVariants.{Unsound}
 use Rattle.refusal.specs.Refusal.{AllNamed}
 use Rattle.refusal.specs.declared.Refusal.{Refusal as No}
 use Rattle.machine.specs.Step.{told_of as answer_told}
@@ -23,7 +25,7 @@ use Rattle.machine.specs.declared.Answer.{Answer}
 use Rattle.machine.specs.declared.Answer.TheVariants.{Did, Idle, Refused as NoStep}
 use Rattle.hear.specs.Hear.{told_of as outcome_told}
 use Rattle.hear.specs.declared.Outcome.{Outcome}
-use Rattle.hear.specs.declared.Outcome.TheVariants.{Query, Reset, Repeat, Stored, Released, Refused}
+use Rattle.hear.specs.declared.Outcome.TheVariants.{Query, Reset, Repeat, Stored, Released}
 use Rattle.sign.specs.Sound.{sound_of}
 use Rattle.sign.specs.Join.{stays_of}
 use Rattle.sign.specs.Receive.{receive_of}
@@ -231,16 +233,16 @@ unfolding cleared_of
 ill_resets image e = ap (λ (t : Bool). (outcome_told (choice t).outcome).number) e
   where
     choice : Bool → Cleared
-    choice t = when t (record { sign = reset_of (record_of image); outcome = Reset }) (record { sign = record_of image; outcome = Refused 16 })
+    choice t = when t (record { sign = reset_of (record_of image); outcome = Ok Reset }) (record { sign = record_of image; outcome = Err Unsound })
 
 -- a refusal tells nothing
-pub quiet_receive : (o : Outcome) (body : List ℕ) (len : ℕ) → ((outcome_told o).number ≡ 0 → ⊥) → received_bytes o body len ≡ []
-quiet_receive Query body len h = absurd (h refl)
-quiet_receive Reset body len h = absurd (h refl)
-quiet_receive Repeat body len h = absurd (h refl)
-quiet_receive Stored body len h = absurd (h refl)
-quiet_receive (Released v) body len h = absurd (h refl)
-quiet_receive (Refused n) body len h = refl
+pub quiet_receive : (o : Result Outcome Refusal) (body : List ℕ) (len : ℕ) → ((outcome_told o).number ≡ 0 → ⊥) → received_bytes o body len ≡ []
+quiet_receive (Ok Query) body len h = absurd (h refl)
+quiet_receive (Ok Reset) body len h = absurd (h refl)
+quiet_receive (Ok Repeat) body len h = absurd (h refl)
+quiet_receive (Ok Stored) body len h = absurd (h refl)
+quiet_receive (Ok (Released v)) body len h = absurd (h refl)
+quiet_receive (Err e) body len h = refl
 
 pub quiet_step : (x : Answer) → ((answer_told x).number ≡ 0 → ⊥) → words_of (answer_told x).values ≡ []
 unfolding words_of

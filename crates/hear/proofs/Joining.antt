@@ -9,6 +9,9 @@ use lib.ListN.{length, get_or, replicate, get_or-replicate}
 use borrow.Author.Tests.{eq-eqb, ne_eqb}
 use Rattle.basis.specs.Choice.{when}
 use Rattle.basis.proofs.Choices.{when_false}
+use Rattle.std.specs.Prelude.{Result, Ok, Err}
+use Rattle.refusal.specs.declared.Refusal.{Refusal}
+use Rattle.refusal.specs.declared.Refusal.TheVariants.{Busy, OtherPacket}
 use Rattle.completed.specs.Completed.{has_of}
 use Rattle.completed.specs.declared.Completed.{Completed}
 use Rattle.collect.specs.Slots.{Collection, same_of, slots_of, begun_of, stored_of}
@@ -16,7 +19,7 @@ use Rattle.collect.specs.Sound.{sound_of}
 use Rattle.collect.proofs.Sounds.{begun_slots, sound_slots, slots_most}
 use Rattle.hear.specs.Join.{slot_of, goes_by, begins_of, taking_of, join_by, Left, stay_of, count_of, Right, Open}
 use Rattle.hear.specs.declared.Outcome.{Outcome}
-use Rattle.hear.specs.declared.Outcome.TheVariants.{Repeat, Refused}
+use Rattle.hear.specs.declared.Outcome.TheVariants.{Repeat}
 
 -- a free position takes a right packet
 pub into_open : (c : Collection) (total position len : ℕ) → slots_of c.total 0 c.lens c.room ≡ true → c.total ≡ total → Right total position len
@@ -37,7 +40,7 @@ taking_slots completed d id total c e w =
     go false = sound_slots completed d e
 
 -- a packet that begins finds its position free
-pub begun_goes : {A : Type 0} (stays : Outcome → A) (counted : Collection → A) (id total position : ℕ) (part : List ℕ) → Right total position (length part)
+pub begun_goes : {A : Type 0} (stays : Result Outcome Refusal → A) (counted : Collection → A) (id total position : ℕ) (part : List ℕ) → Right total position (length part)
     → goes_by stays counted (begun_of id total) total position part ≡ counted (stored_of (begun_of id total) position part)
 unfolding begun_of
 begun_goes stays counted id total position part r =
@@ -55,7 +58,7 @@ join_into completed d len id total position part c l right other ready ec el =
     el
     ∙ ap (λ (x : Collection). goes_by (stay_of completed x) (count_of completed) x total position part) ec
     ∙ go (begins_of d id)
-    ∙ sym (when_false (has_of completed id) (stay_of completed d Repeat) _ other ∙ when_false (not (eqb len 0)) (stay_of completed d (Refused 12)) _ (ap not (eq-eqb len 0 ready)))
+    ∙ sym (when_false (has_of completed id) (stay_of completed d (Ok Repeat)) _ other ∙ when_false (not (eqb len 0)) (stay_of completed d (Err Busy)) _ (ap not (eq-eqb len 0 ready)))
   where
     go : (t : Bool)
         → goes_by (stay_of completed (when t (begun_of id total) d)) (count_of completed) (when t (begun_of id total) d) total position part
@@ -68,22 +71,22 @@ pub held_most_14 : (c : Collection) (position : ℕ) → slots_of c.total 0 c.le
 held_most_14 c position e = slots_most c.total 0 c.lens c.room position e
 
 -- a position that is held: equal data Repeat, other data 13
-module _ {A : Type 0} (stays : Outcome → A) (counted : Collection → A) (c : Collection) (total position : ℕ) (part : List ℕ) (same : c.total ≡ total)
+module _ {A : Type 0} (stays : Result Outcome Refusal → A) (counted : Collection → A) (c : Collection) (total position : ℕ) (part : List ℕ) (same : c.total ≡ total)
     (held : get_or c.lens position 0 ≡ 0 → ⊥) where
-  held_goes : goes_by stays counted c total position part ≡ when (same_of (slot_of c position) part) (stays Repeat) (stays (Refused 13))
+  held_goes : goes_by stays counted c total position part ≡ when (same_of (slot_of c position) part) (stays (Ok Repeat)) (stays (Err OtherPacket))
   held_goes =
       ap
       (λ (t : Bool).
-      when (not t) (stays (Refused 13))
+      when (not t) (stays (Err OtherPacket))
       (when (eqb (get_or c.lens position 0) 0) (counted (stored_of c position part))
-      (when (same_of (slot_of c position) part) (stays Repeat) (stays (Refused 13)))))
+      (when (same_of (slot_of c position) part) (stays (Ok Repeat)) (stays (Err OtherPacket)))))
       (eq-eqb c.total total same)
       ∙ when_false (eqb (get_or c.lens position 0) 0) (counted (stored_of c position part))
-      (when (same_of (slot_of c position) part) (stays Repeat) (stays (Refused 13)))
+      (when (same_of (slot_of c position) part) (stays (Ok Repeat)) (stays (Err OtherPacket)))
       (ne_eqb (get_or c.lens position 0) 0 held)
 
-  pub goes_by_lem : (t u : Bool) (l : A) → t ≡ same_of (slot_of c position) part → t ≡ u → l ≡ when u (stays Repeat) (stays (Refused 13))
+  pub goes_by_lem : (t u : Bool) (l : A) → t ≡ same_of (slot_of c position) part → t ≡ u → l ≡ when u (stays (Ok Repeat)) (stays (Err OtherPacket))
       → l ≡ goes_by stays counted c total position part
   goes_by_lem t u l e f q =
       let w : u ≡ same_of (slot_of c position) part = sym f ∙ e in
-      q ∙ ap (λ (x : Bool). when x (stays Repeat) (stays (Refused 13))) w ∙ sym held_goes
+      q ∙ ap (λ (x : Bool). when x (stays (Ok Repeat)) (stays (Err OtherPacket))) w ∙ sym held_goes

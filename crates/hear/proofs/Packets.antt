@@ -9,8 +9,9 @@ use lib.ListN.{length, get_or, take, drop, length-drop}
 use lib.Seq.{length-take-le}
 use borrow.Author.Tests.{ltb-false, leb-false, eqb-false, lt-ltb, leb-true}
 use Rattle.basis.specs.Choice.{when, ◌and◌, ◌or◌}
+use Rattle.std.specs.Prelude.{Ok}
 use Rattle.reader.specs.Read.{wrong_place, read_of}
-use Rattle.reader.specs.declared.read.Reading.TheVariants.{Query, Reset, Normal}
+use Rattle.reader.specs.declared.read.Packet.TheVariants.{Query, Reset, Normal}
 use Rattle.reader.proofs.Unique.{passed, framed}
 use Rattle.hear.specs.Join.{Right}
 
@@ -65,9 +66,9 @@ fields true u b i fifth n id total position len normal whole least most f9 f10 f
 fields false true b i fifth n id total position len normal whole least most f9 f10 f11 e = let z : ◌≡◌ {A = ℕ} 0 1 = cc in absurd (omega arith)
 fields false false b i fifth n id total position len normal whole least most f9 f10 f11 e = let z : ◌≡◌ {A = ℕ} 0 1 = cc in absurd (omega arith)
 
-pub normal_read : (mid : ℕ) (b : List ℕ) (id total position len : ℕ) → read_of mid b ≡ Normal id total position len → Read b id total position len
+pub normal_read : (mid : ℕ) (b : List ℕ) (id total position len : ℕ) → read_of mid b ≡ Ok (Normal id total position len) → Read b id total position len
 normal_read mid b id total position len e =
-    let p = passed mid b (Normal id total position len) e (λ k q. let z : ◌≡◌ {A = ℕ} 0 1 = cc in omega arith) in
+    let p = passed mid b (Normal id total position len) e in
     let f = framed mid b p.0 in
     fields (leb (get_or b 3 0) 0x3F) (eqb (get_or b 3 0) 0x40) b (get_or b 3 0) (get_or b 4 0) (length b) id total position len refl refl
     f.least

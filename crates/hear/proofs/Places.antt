@@ -14,6 +14,7 @@ use Rattle.basis.specs.Choice.{when, ◌or◌}
 use Rattle.basis.proofs.Choices.{when_true, when_false}
 use Rattle.basis.proofs.Laid.{take_laid}
 use Rattle.judge.specs.Verdict.{Verdict, judge_of}
+use Rattle.std.specs.Prelude.{Ok}
 use Rattle.room.specs.Room.{room_of}
 use Rattle.completed.specs.Completed.{added_of}
 use Rattle.completed.specs.declared.Completed.{Completed}
@@ -70,16 +71,16 @@ stored_is c position part x e =
     ap (λ (y : List ℕ). record { id = c.id; total = c.total; lens = set c.lens position (length part); room = y }) e
 
 -- not all are held: Stored; all are held: Released
-pub counted_less : (completed : Completed) (n c : Collection) (l : Left) → n ≡ c → held_of n.lens < n.total → l ≡ stay_of completed n Stored → l ≡ count_of completed c
+pub counted_less : (completed : Completed) (n c : Collection) (l : Left) → n ≡ c → held_of n.lens < n.total → l ≡ stay_of completed n (Ok Stored) → l ≡ count_of completed c
 counted_less completed n c l e h q =
     q
-    ∙ sym (when_false (leb n.total (held_of n.lens)) (whole_of completed n) (stay_of completed n Stored) (lt-leb n.total (held_of n.lens) h))
+    ∙ sym (when_false (leb n.total (held_of n.lens)) (whole_of completed n) (stay_of completed n (Ok Stored)) (lt-leb n.total (held_of n.lens) h))
     ∙ ap (count_of completed) e
 
 pub counted_full : (completed : Completed) (n c : Collection) (l : Left) → n ≡ c → n.total ≤ held_of n.lens → l ≡ whole_of completed n → l ≡ count_of completed c
 counted_full completed n c l e h q =
     q
-    ∙ sym (when_true (leb n.total (held_of n.lens)) (whole_of completed n) (stay_of completed n Stored) (le-leb n.total (held_of n.lens) h))
+    ∙ sym (when_true (leb n.total (held_of n.lens)) (whole_of completed n) (stay_of completed n (Ok Stored)) (le-leb n.total (held_of n.lens) h))
     ∙ ap (count_of completed) e
 
 -- of a whole collection the room is the body with zeros after it
@@ -110,8 +111,8 @@ module _ (c : Collection) (lens : length c.lens ≡ 6) (room : length c.room ≡
 pub whole_left : (completed : Completed) (c : Collection) (v : Verdict) (len : ℕ) → room_of (joined_of c.lens c.room) ≡ c.room
     → v ≡ judge_of (joined_of c.lens c.room)
     → len ≡ length (joined_of c.lens c.room)
-    → ◌≡◌ {A = Left} (record { outcome = Released v; completed = added_of completed c.id; collection = record { id = 0; total = 0; lens = replicate 6 0; room = c.room }; len = len }) (whole_of completed c)
+    → ◌≡◌ {A = Left} (record { outcome = Ok (Released v); completed = added_of completed c.id; collection = record { id = 0; total = 0; lens = replicate 6 0; room = c.room }; len = len }) (whole_of completed c)
 whole_left completed c v len er ev el =
-    ap (λ (x : List ℕ). record { outcome = Released v; completed = added_of completed c.id; collection = record { id = 0; total = 0; lens = replicate 6 0; room = x }; len = len }) (sym er)
-    ∙ ap (λ (x : Verdict). record { outcome = Released x; completed = added_of completed c.id; collection = body_in (joined_of c.lens c.room); len = len }) ev
-    ∙ ap (λ (n : ℕ). record { outcome = Released (judge_of (joined_of c.lens c.room)); completed = added_of completed c.id; collection = body_in (joined_of c.lens c.room); len = n }) el
+    ap (λ (x : List ℕ). record { outcome = Ok (Released v); completed = added_of completed c.id; collection = record { id = 0; total = 0; lens = replicate 6 0; room = x }; len = len }) (sym er)
+    ∙ ap (λ (x : Verdict). record { outcome = Ok (Released x); completed = added_of completed c.id; collection = body_in (joined_of c.lens c.room); len = len }) ev
+    ∙ ap (λ (n : ℕ). record { outcome = Ok (Released (judge_of (joined_of c.lens c.room))); completed = added_of completed c.id; collection = body_in (joined_of c.lens c.room); len = n }) el

@@ -1,38 +1,43 @@
 -- Bytes off the line, in the order of J3: 16, the reader's 19 and 1 to 11, query (J13), reset (J14), then a normal packet.
-use Rattle.std.specs.Prelude.{ℕ, List, [], ◌∷◌, take, drop}
+use Rattle.std.specs.Prelude.{ℕ, List, [], ◌∷◌, take, drop, Result, Ok, Err}
 use Rattle.basis.specs.Choice.{when}
-use Rattle.basis.specs.Told.{Told, yes, no}
+use Rattle.basis.specs.Told.{Told}
+use Rattle.refusal.specs.Refusal.{told_by}
+use Rattle.refusal.specs.declared.Refusal.{Refusal}
+use Rattle.refusal.specs.declared.Refusal.TheVariants.{Unsound}
 use Rattle.judge.specs.Verdict.{told_of as verdict_told}
 use Rattle.reader.specs.Read.{read_of}
-use Rattle.reader.specs.declared.read.Reading.{Reading}
-use Rattle.reader.specs.declared.read.Reading.TheVariants.{Query as QueryRead, Reset as ResetRead, Normal, Refused as Unread}
+use Rattle.reader.specs.declared.read.Packet.{Packet}
+use Rattle.reader.specs.declared.read.Packet.TheVariants.{Query as QueryRead, Reset as ResetRead, Normal}
 use Rattle.completed.specs.declared.Completed.{Completed}
 use Rattle.collect.specs.Slots.{Collection}
 use Rattle.hear.specs.Frame.{framed_by}
 use Rattle.hear.specs.Join.{Left, join_by, stay_of, reset_left, count_of}
 use Rattle.hear.specs.declared.Outcome.{Outcome}
-use Rattle.hear.specs.declared.Outcome.TheVariants.{Query, Reset, Repeat, Stored, Released, Refused}
+use Rattle.hear.specs.declared.Outcome.TheVariants.{Query, Reset, Repeat, Stored, Released}
 
 -- what was read decides; the data of a normal packet stand at bytes 5 to 5 + len
-abbrev pub read_by : {A : Type 0} → (stays : Outcome → A) → (reset : A) → (joined : ℕ → ℕ → ℕ → List ℕ → A) → List ℕ → Reading → A
-read_by stays reset joined b QueryRead = stays Query
-read_by stays reset joined b ResetRead = reset
-read_by stays reset joined b (Normal id total position len) = joined id total position (take len (drop 5 b))
-read_by stays reset joined b (Unread n) = stays (Refused n)
+abbrev pub read_by : {A : Type 0} → (stays : Result Outcome Refusal → A) → (reset : A) → (joined : ℕ → ℕ → ℕ → List ℕ → A) → List ℕ → Result Packet Refusal → A
+read_by stays reset joined b (Ok QueryRead) = stays (Ok Query)
+read_by stays reset joined b (Ok ResetRead) = reset
+read_by stays reset joined b (Ok (Normal id total position len)) = joined id total position (take len (drop 5 b))
+read_by stays reset joined b (Err e) = stays (Err e)
 
 -- what was read, where the frame is sound
-abbrev pub heard_of : Completed → Collection → ℕ → List ℕ → Reading → Left
+abbrev pub heard_of : Completed → Collection → ℕ → List ℕ → Result Packet Refusal → Left
 heard_of completed c len b read = read_by (stay_of completed c) reset_left (join_by (stay_of completed c) (count_of completed) completed c len) b read
 
 unfoldable pub hear_of : Completed → Collection → ℕ → ℕ → List ℕ → Left
-hear_of completed c len mid b = when (framed_by completed c len) (heard_of completed c len b (read_of mid b)) (stay_of completed c (Refused 16))
+hear_of completed c len mid b = when (framed_by completed c len) (heard_of completed c len b (read_of mid b)) (stay_of completed c (Err Unsound))
 
 -- the outcome in the rules' numbers: which of the five it is, and for Released the refusal of its program and its place
 -- (J12), 0 where it is accepted
-abbrev pub told_of : Outcome → Told
-told_of Query = yes (1 ∷ 0 ∷ 0 ∷ [])
-told_of Reset = yes (2 ∷ 0 ∷ 0 ∷ [])
-told_of Repeat = yes (3 ∷ 0 ∷ 0 ∷ [])
-told_of Stored = yes (4 ∷ 0 ∷ 0 ∷ [])
-told_of (Released v) = yes (5 ∷ (verdict_told v).number ∷ (verdict_told v).place ∷ [])
-told_of (Refused n) = no n
+abbrev pub values_of : Outcome → List ℕ
+values_of Query = 1 ∷ 0 ∷ 0 ∷ []
+values_of Reset = 2 ∷ 0 ∷ 0 ∷ []
+values_of Repeat = 3 ∷ 0 ∷ 0 ∷ []
+values_of Stored = 4 ∷ 0 ∷ 0 ∷ []
+values_of (Released v) = 5 ∷ (verdict_told v).number ∷ (verdict_told v).place ∷ []
+
+abbrev pub told_of : Result Outcome Refusal → Told
+told_of = told_by values_of

@@ -10,7 +10,8 @@ use crate::join::{join, stays};
 use crate::{Heard, Outcome};
 use collect::{Slots, begun};
 use completed::{Completed, none};
-use reader::{Reading, read_packet};
+use reader::{Packet, read_packet};
+use refusal::Refusal;
 
 // A reset leaves nothing collected, and no completed ID.
 fn cleared(room: &mut [u8; 84]) -> Heard
@@ -18,7 +19,7 @@ fn cleared(room: &mut [u8; 84]) -> Heard
 {
     *room = [0; 84];
     Heard {
-        outcome: Outcome::Reset,
+        outcome: Ok(Outcome::Reset),
         completed: none(),
         slots: begun(0, 0),
         len: 0,
@@ -37,18 +38,20 @@ pub fn hear(
     ensures { left_of result room.new ≡ hear_of completed (collection_of slots room.old) len mid bytes.now }
 {
     if !framed(completed, slots, room, len) {
-        return stays(completed, slots, Outcome::Refused(16));
+        return stays(completed, slots, Err(Refusal::Unsound));
     }
     let read = read_packet(mid, bytes);
     match read {
-        Reading::Query => stays(completed, slots, Outcome::Query),
-        Reading::Reset => cleared(room),
-        Reading::Normal {
-            id,
-            total,
-            position,
-            len: size,
-        } => {
+        Ok(Packet::Query) => stays(completed, slots, Ok(Outcome::Query)),
+        Ok(Packet::Reset) => cleared(room),
+        Ok(
+            Packet::Normal {
+                id,
+                total,
+                position,
+                len: size,
+            },
+        ) => {
             let end = 5 + size;
             join(
                 completed,
@@ -61,6 +64,6 @@ pub fn hear(
                 &bytes[5..end],
             )
         }
-        Reading::Refused(n) => stays(completed, slots, Outcome::Refused(n)),
+        Err(e) => stays(completed, slots, Err(e)),
     }
 }

@@ -10,9 +10,10 @@ use crate::{Heard, Outcome};
 use collect::{Slots, begun, held, same};
 use completed::Completed;
 use judge::judge;
+use refusal::Refusal;
 
 // Nothing changes.
-pub(crate) fn stays(completed: Completed, slots: Slots, outcome: Outcome) -> Heard
+pub(crate) fn stays(completed: Completed, slots: Slots, outcome: Result<Outcome, Refusal>) -> Heard
     ensures { result ≡ record { outcome = outcome; completed = completed; slots = slots; len = 0 } }
 {
     Heard {
@@ -33,7 +34,7 @@ fn released(completed: Completed, slots: Slots, room: &[u8]) -> Heard
     let len = 14 * at + lens[at] as usize;
     let verdict = judge(&room[..len]);
     Heard {
-        outcome: Outcome::Released(verdict),
+        outcome: Ok(Outcome::Released(verdict)),
         completed: completed.with(slots.id),
         slots: begun(0, 0),
         len,
@@ -66,7 +67,7 @@ fn placed(
     fill(room, position, part);
     let lens = next.lens;
     if held(lens) < next.total as usize {
-        return stays(completed, next, Outcome::Stored);
+        return stays(completed, next, Ok(Outcome::Stored));
     }
     released(completed, next, room)
 }
@@ -110,16 +111,16 @@ fn goes_into(
 {
     let lens = slots.lens;
     if slots.total != total {
-        return stays(completed, slots, Outcome::Refused(13));
+        return stays(completed, slots, Err(Refusal::OtherPacket));
     }
     let len = lens[position];
     if len == 0 {
         return placed(completed, slots, room, position, part);
     }
     if holds(room, position, len, part) {
-        return stays(completed, slots, Outcome::Repeat);
+        return stays(completed, slots, Ok(Outcome::Repeat));
     }
-    stays(completed, slots, Outcome::Refused(13))
+    stays(completed, slots, Err(Refusal::OtherPacket))
 }
 
 // A normal packet of a right length and place, beside completed IDs, and sound slots where no body is running.
@@ -137,10 +138,10 @@ pub(crate) fn join(
     ensures { left_of result room.new ≡ join_by (stay_of completed (collection_of slots room.old)) (count_of completed) completed (collection_of slots room.old) len id total position part.now }
 {
     if completed.has(id) {
-        return stays(completed, slots, Outcome::Repeat);
+        return stays(completed, slots, Ok(Outcome::Repeat));
     }
     if len != 0 {
-        return stays(completed, slots, Outcome::Refused(12));
+        return stays(completed, slots, Err(Refusal::Busy));
     }
     let into = taking(slots, room, id, total);
     goes_into(completed, into, room, total, position, part)

@@ -14,9 +14,9 @@ use completed::Completed;
 pub use frame::framed;
 pub use hearing::hear;
 use judge::Verdict;
+use refusal::Refusal;
 
-// What a sign makes of the bytes that came: the number for no, or what they were. A body released comes with its verdict, and
-// stands in the room.
+// What a sign makes of bytes that it doesn't refuse. A body released comes with its verdict, and stands in the room.
 #[derive(Clone, Copy)]
 pub enum Outcome {
     Query,
@@ -24,13 +24,12 @@ pub enum Outcome {
     Repeat,
     Stored,
     Released(Verdict),
-    Refused(u8),
 }
 
-// The outcome, with the completed IDs and the slots as they are after it. Of a body released `len` is the length.
+// The outcome or the refusal, with the completed IDs and the slots as they are after it. Of a body released `len` is the length.
 #[derive(Clone, Copy)]
 pub struct Heard {
-    pub outcome: Outcome,
+    pub outcome: Result<Outcome, Refusal>,
     pub completed: Completed,
     pub slots: Slots,
     pub len: usize,

@@ -9,17 +9,17 @@ use Rattle.refusal.specs.declared.Refusal.{Refusal}
 use Rattle.refusal.specs.declared.Refusal.TheVariants.{ForbiddenMid}
 use Rattle.packet.proofs.Writing.{refused}
 
-module _ {A : Type 0} (refused : ℕ → A) (mid : ℕ) (answer : A) where
+module _ {A : Type 0} (mid : ℕ) (answer : Result A Refusal) where
   -- a reader says 19 of a forbidden MID
-  pub guard_stops : is_forbidden mid ≡ true → mid_or refused mid answer ≡ refused 19
-  guard_stops e = when_true (is_forbidden mid) (refused 19) answer e
+  pub guard_stops : is_forbidden mid ≡ true → mid_or mid answer ≡ Err ForbiddenMid
+  guard_stops e = when_true (is_forbidden mid) (Err ForbiddenMid) answer e
 
   -- and with any other MID what it says without the guard
-  pub guard_passes : Allowed mid → mid_or refused mid answer ≡ answer
-  guard_passes e = when_false (is_forbidden mid) (refused 19) answer e
+  pub guard_passes : Allowed mid → mid_or mid answer ≡ answer
+  guard_passes e = when_false (is_forbidden mid) (Err ForbiddenMid) answer e
 
   -- so an answer that is no 19 passed the guard
-  pub guard_past : (r : A) → mid_or refused mid answer ≡ r → (r ≡ refused 19 → ⊥) → Allowed mid × (answer ≡ r)
+  pub guard_past : (r : Result A Refusal) → mid_or mid answer ≡ r → (r ≡ Err ForbiddenMid → ⊥) → Allowed mid × (answer ≡ r)
   guard_past r e other = go (is_forbidden mid) refl
     where
       go : (t : Bool) → is_forbidden mid ≡ t → Allowed mid × (answer ≡ r)

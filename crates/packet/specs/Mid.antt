@@ -1,8 +1,10 @@
 -- The MIDs that no sign may have: rule W8, and N19 (C-15), the guard. It judges the MID that the caller gives as the
 -- sign's own, and comes before a call's other refusals; only 251 and 16 come before it.
-use Rattle.std.specs.Prelude.{◌≡◌, ℕ, Bool, false, nat_eq}
+use Rattle.std.specs.Prelude.{◌≡◌, ℕ, Bool, false, nat_eq, Result, Err}
 use Rattle.basis.specs.Choice.{when, ◌or◌}
 use Rattle.basis.specs.Rows.{Row, ◌if◌}
+use Rattle.refusal.specs.declared.Refusal.{Refusal}
+use Rattle.refusal.specs.declared.Refusal.TheVariants.{ForbiddenMid}
 
 -- 0, 1, 7Eh and 7Fh
 unfoldable pub is_forbidden : ℕ → Bool
@@ -17,5 +19,5 @@ abbrev pub mid_row : ℕ → Row
 mid_row mid = 19 if is_forbidden mid
 
 -- 19 for a forbidden MID, or the answer
-abbrev pub mid_or : {A : Type 0} → (refused : ℕ → A) → (mid : ℕ) → (answer : A) → A
-mid_or refused mid answer = when (is_forbidden mid) (refused 19) answer
+abbrev pub mid_or : {A : Type 0} → (mid : ℕ) → (answer : Result A Refusal) → Result A Refusal
+mid_or mid answer = when (is_forbidden mid) (Err ForbiddenMid) answer

@@ -9,17 +9,19 @@ use Rattle.basis.specs.Bytes.{laid}
 use Rattle.basis.specs.Choice.{when}
 use Rattle.basis.specs.Rows.{Row, first_of}
 use Rattle.basis.proofs.Choices.{when_false}
+use Rattle.std.specs.Prelude.{Result, Err}
+use Rattle.refusal.specs.declared.Refusal.TheVariants.{Unsound}
+use Rattle.refusal.specs.declared.Refusal.{Refusal}
 use Rattle.packet.specs.Mid.{is_forbidden, Allowed, mid_row}
 use Rattle.packet.specs.Write.{short_by, buffer_of, written_of}
 use Rattle.packet.proofs.Guards.{mid_passes}
 use Rattle.reader.specs.Read.{told_of as read_told}
-use Rattle.reader.specs.declared.read.Reading.{Reading}
+use Rattle.reader.specs.declared.read.Packet.{Packet}
 use Rattle.reader.proofs.Guard.{read_passes}
 use Rattle.reply.specs.Reply.{told_of as status_told}
 use Rattle.reply.specs.declared.Status.{Status}
 use Rattle.reply.proofs.Replies.{heard_passes}
 use Rattle.hear.specs.Hear.{told_of as outcome_told}
-use Rattle.hear.specs.declared.Outcome.TheVariants.{Refused}
 use Rattle.sign.specs.Join.{stays_of}
 use Rattle.sign.specs.Receive.{heard_of, receive_of}
 use Rattle.sign.specs.Sound.{sound_of}
@@ -36,7 +38,7 @@ use Rattle.promises.specs.Before.{received_before, receive_no_before, AgreeForC}
 -- a receive of a record
 pub receives_as_before : (s : Sign) (mid : ℕ) (b : List ℕ) → Allowed mid → receive_of s mid b ≡ received_before s mid b
 unfolding receive_of
-receives_as_before s mid b e = ap (λ (x : Reading). when (sound_of s) (heard_of s b x) (stays_of s (Refused 16))) (read_passes mid b e)
+receives_as_before s mid b e = ap (λ (x : Result Packet Refusal). when (sound_of s) (heard_of s b x) (stays_of s (Err Unsound))) (read_passes mid b e)
 
 -- the number before those of the call itself
 passes : (mid : ℕ) (rows : List Row) (n : ℕ) → Allowed mid → first_or (mid_row mid ∷ rows) n ≡ first_or rows n
@@ -80,11 +82,11 @@ pub agrees_for_c : AgreeForC
 agrees_for_c =
     record {
       read_no_lem = λ mid bytes answer e.
-          passes mid (answer_row 20 answer ∷ []) _ e ∙ ap (λ (z : Reading). first_or (answer_row 20 answer ∷ []) (read_told z).number) (read_passes mid bytes e);
-      read_answer_lem = λ mid bytes answer e. ap (λ (z : Reading). told_in 20 (words_of (read_told z).values) answer) (read_passes mid bytes e);
+          passes mid (answer_row 20 answer ∷ []) _ e ∙ ap (λ (z : Result Packet Refusal). first_or (answer_row 20 answer ∷ []) (read_told z).number) (read_passes mid bytes e);
+      read_answer_lem = λ mid bytes answer e. ap (λ (z : Result Packet Refusal). told_in 20 (words_of (read_told z).values) answer) (read_passes mid bytes e);
       reply_no_lem = λ mid bytes answer e.
-          passes mid (answer_row 12 answer ∷ []) _ e ∙ ap (λ (z : Status). first_or (answer_row 12 answer ∷ []) (status_told z).number) (heard_passes mid bytes e);
-      reply_answer_lem = λ mid bytes answer e. ap (λ (z : Status). told_in 12 (words_of (status_told z).values) answer) (heard_passes mid bytes e);
+          passes mid (answer_row 12 answer ∷ []) _ e ∙ ap (λ (z : Result Status Refusal). first_or (answer_row 12 answer ∷ []) (status_told z).number) (heard_passes mid bytes e);
+      reply_answer_lem = λ mid bytes answer e. ap (λ (z : Result Status Refusal). told_in 12 (words_of (status_told z).values) answer) (heard_passes mid bytes e);
       receive_no_lem = no_as_before;
       receive_image_lem = image_as_before;
       receive_answer_lem = answer_as_before;

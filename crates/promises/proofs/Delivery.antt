@@ -11,6 +11,7 @@ use borrow.Author.Tests.{eqb-false, ltb-false}
 use Rattle.basis.specs.Bytes.{laid}
 use Rattle.basis.specs.Choice.{when, ◌or◌}
 use Rattle.basis.specs.Rows.{first_of}
+use Rattle.std.specs.Prelude.{Ok}
 use Rattle.packet.specs.Mid.{is_forbidden, Allowed, mid_row}
 use Rattle.packet.specs.Wire.{fifth_of, total_of, part_of, packet_at, transmission_of}
 use Rattle.packet.specs.Write.{transmission_rows, buffer_of, written_of}
@@ -139,7 +140,7 @@ module _ (mid id : ℕ) (body out : List ℕ) (w : Written mid id body out) wher
 
   -- a copy of one of them, to a sign that has the number among its completed ones
   pub copy_is : (s : Sign) → Good s → has_of s.completed id ≡ true → (p : ℕ) → p < total_of body
-      → ours.receive s mid (packet_in buffer p) ≡ stays s (outcome_told Repeat)
+      → ours.receive s mid (packet_in buffer p) ≡ stays s (outcome_told (Ok Repeat))
   unfolding stays_of
   copy_is s good has p below =
       ap (λ (b : List ℕ). heard_in (receive_of s mid b)) (packet_in_lem p below)

@@ -11,12 +11,14 @@ use Rattle.basis.specs.Bytes.{laid}
 use Rattle.basis.specs.Choice.{when}
 use Rattle.basis.specs.Rows.{Row, ◌if◌, first_of}
 use Rattle.basis.proofs.Choices.{when_true, when_false}
+use Rattle.std.specs.Prelude.{Result}
+use Rattle.refusal.specs.declared.Refusal.{Refusal}
 use Rattle.packet.specs.Mid.{is_forbidden, Allowed, mid_row}
 use Rattle.packet.specs.Wire.{query_of, reset_of, packet_at, transmission_of, reply_of}
 use Rattle.packet.specs.Write.{short_by, packet_rows, transmission_rows, buffer_of, written_of}
 use Rattle.packet.proofs.Guards.{mid_stops, mid_passes}
 use Rattle.reader.specs.Read.{told_of as read_told}
-use Rattle.reader.specs.declared.read.Reading.{Reading}
+use Rattle.reader.specs.declared.read.Packet.{Packet}
 use Rattle.reader.proofs.Guard.{read_stops, read_passes}
 use Rattle.reply.specs.Reply.{reply_rows, told_of as status_told}
 use Rattle.reply.specs.declared.Status.{Status}
@@ -113,9 +115,9 @@ pub guards_for_c : GuardsForC
 guards_for_c =
     record {
       read_no_lem = λ mid bytes answer e. stops_or mid (answer_row 20 answer ∷ []) _ e;
-      read_answer_lem = λ mid bytes answer e. ap (λ (x : Reading). told_in 20 (words_of (read_told x).values) answer) (read_stops mid bytes e) ∙ silent 20 answer;
+      read_answer_lem = λ mid bytes answer e. ap (λ (x : Result Packet Refusal). told_in 20 (words_of (read_told x).values) answer) (read_stops mid bytes e) ∙ silent 20 answer;
       reply_no_lem = λ mid bytes answer e. stops_or mid (answer_row 12 answer ∷ []) _ e;
-      reply_answer_lem = λ mid bytes answer e. ap (λ (x : Status). told_in 12 (words_of (status_told x).values) answer) (heard_stops mid bytes e) ∙ silent 12 answer;
+      reply_answer_lem = λ mid bytes answer e. ap (λ (x : Result Status Refusal). told_in 12 (words_of (status_told x).values) answer) (heard_stops mid bytes e) ∙ silent 12 answer;
       receive_unsized = λ image mid bytes answer h. unsized image (mid_row mid ∷ answer_row 100 answer ∷ []) _ h;
       receive_unsound = λ image mid bytes answer h ill.
           sized image (mid_row mid ∷ answer_row 100 answer ∷ []) _ h ∙ when_true (not (sound_of (record_of image))) 16 _ (ap not ill);

@@ -13,17 +13,19 @@ use Rattle.basis.specs.Choice.{◌and◌, within}
 use Rattle.basis.specs.Rows.{Row}
 use Rattle.basis.proofs.Choices.{and_parts, within_parts}
 use Rattle.basis.specs.Told.{Told, no}
+use Rattle.std.specs.Prelude.{Result, Ok, Err}
+use Rattle.refusal.specs.Refusal.{number_of}
+use Rattle.refusal.specs.declared.Refusal.{Refusal}
 use Rattle.packet.specs.Mid.{is_forbidden, Allowed}
 use Rattle.packet.specs.Write.{right_fields}
 use Rattle.packet.proofs.Fields.{parts_right}
 use Rattle.reader.specs.Read.{read_of, told_of as read_told}
-use Rattle.reader.specs.declared.read.Reading.{Reading}
-use Rattle.reader.specs.declared.read.Reading.TheVariants.{Query as QueryRead, Reset as ResetRead, Normal, Refused as Unread}
+use Rattle.reader.specs.declared.read.Packet.{Packet}
+use Rattle.reader.specs.declared.read.Packet.TheVariants.{Query as QueryRead, Reset as ResetRead, Normal}
 use Rattle.reader.proofs.Unique.{query_only, reset_only, normal_only}
 use Rattle.reader.proofs.Refusals.{refused_lowest}
-use Rattle.reply.specs.Reply.{heard_of, told_of as status_told}
+use Rattle.reply.specs.Reply.{heard_of, told_of as status_told, status}
 use Rattle.reply.specs.declared.Status.{Status}
-use Rattle.reply.specs.declared.Status.TheVariants.{Heard as HeardReply, Refused as Unheard}
 use Rattle.reply.proofs.Replies.{reply_reads, reply_only}
 use Rattle.judge.specs.Verdict.{Verdict, judge_of, told_of as verdict_told}
 use Rattle.judge.specs.declared.Ending.TheVariants.{Finite, Endless}
@@ -62,7 +64,7 @@ one_wrote rows bytes out w l =
     ∙ ap (λ (b : List ℕ). record { told = (left_by rows bytes out).told; buffer = b }) l.buffer
 
 -- an accepted normal packet has right fields, and so many data bytes
-right_normal : (mid : ℕ) (b : List ℕ) (id total position len : ℕ) → read_of mid b ≡ Normal id total position len
+right_normal : (mid : ℕ) (b : List ℕ) (id total position len : ℕ) → read_of mid b ≡ Ok (Normal id total position len)
     → right_fields id total position len ≡ true
 right_normal mid b id total position len e =
     let p = normal_read mid b id total position len e in
@@ -77,7 +79,7 @@ right_normal mid b id total position len e =
       full = p.right.full;
     })
 
-data_size : (mid : ℕ) (b : List ℕ) (id total position len : ℕ) → read_of mid b ≡ Normal id total position len → length (take len (drop 5 b)) ≡ len
+data_size : (mid : ℕ) (b : List ℕ) (id total position len : ℕ) → read_of mid b ≡ Ok (Normal id total position len) → length (take len (drop 5 b)) ≡ len
 data_size mid b id total position len e =
     length-take-le len (drop 5 b) (omega (arith, length-drop 5 b, (normal_read mid b id total position len e).size))
 
@@ -110,17 +112,17 @@ module _ {R : Type 0} (u : Calls R) (k : Keeps u) where
   pins_read : (mid : ℕ) (b : List ℕ) → Bytes b → u.read mid b ≡ ours.read mid b
   pins_read mid b bytes = guarded (is_forbidden mid) refl
     where
-      go : Allowed mid → (x : Reading) → read_of mid b ≡ x → u.read mid b ≡ read_told (read_of mid b)
-      go allowed QueryRead e = ap (u.read mid) (query_only mid b bytes e) ∙ k.wire.reads.queried mid allowed ∙ ap read_told (sym e)
-      go allowed ResetRead e = ap (u.read mid) (reset_only mid b bytes e) ∙ k.wire.reads.cleared mid allowed ∙ ap read_told (sym e)
-      go allowed (Normal id total position len) e =
+      go : Allowed mid → (x : Result Packet Refusal) → read_of mid b ≡ x → u.read mid b ≡ read_told (read_of mid b)
+      go allowed (Ok QueryRead) e = ap (u.read mid) (query_only mid b bytes e) ∙ k.wire.reads.queried mid allowed ∙ ap read_told (sym e)
+      go allowed (Ok ResetRead) e = ap (u.read mid) (reset_only mid b bytes e) ∙ k.wire.reads.cleared mid allowed ∙ ap read_told (sym e)
+      go allowed (Ok (Normal id total position len)) e =
           let part = take len (drop 5 b) in
           let size : length part ≡ len = data_size mid b id total position len e in
           ap (u.read mid) (normal_only mid b id total position len bytes e)
           ∙ k.wire.reads.normal mid id total position part allowed (ap (right_fields id total position) size ∙ right_normal mid b id total position len e)
-          ∙ ap (λ (n : ℕ). read_told (Normal id total position n)) size
+          ∙ ap (λ (n : ℕ). read_told (Ok (Normal id total position n))) size
           ∙ ap read_told (sym e)
-      go allowed (Unread n) e = k.wire.reads.refused mid b n allowed (refused_lowest mid b n allowed e) ∙ ap read_told (sym e)
+      go allowed (Err x) e = k.wire.reads.refused mid b (number_of x) allowed (refused_lowest mid b x allowed e) ∙ ap read_told (sym e)
 
       guarded : (t : Bool) → is_forbidden mid ≡ t → u.read mid b ≡ read_told (read_of mid b)
       guarded true e = k.guards.read mid b e ∙ sym (ours_guards.read mid b e)
@@ -129,18 +131,18 @@ module _ {R : Type 0} (u : Calls R) (k : Keeps u) where
   pins_hear : (mid : ℕ) (b : List ℕ) → Bytes b → u.hear mid b ≡ ours.hear mid b
   pins_hear mid b bytes = guarded (is_forbidden mid) refl
     where
-      go : Allowed mid → (x : Status) → heard_of mid b ≡ x → u.hear mid b ≡ status_told (heard_of mid b)
-      go allowed (HeardReply last busy sink) e =
-          ap (u.hear mid) (reply_only mid b last busy sink bytes e)
-          ∙ k.wire.hears.heard mid last busy sink allowed (heard_last mid b last busy sink e)
+      go : Allowed mid → (x : Result Status Refusal) → heard_of mid b ≡ x → u.hear mid b ≡ status_told (heard_of mid b)
+      go allowed (Ok s) e =
+          ap (u.hear mid) (reply_only mid b s.last s.busy s.sink bytes e)
+          ∙ k.wire.hears.heard mid s.last s.busy s.sink allowed (heard_last mid b s.last s.busy s.sink e)
           ∙ ap status_told (sym e)
-      go allowed (Unheard n) e =
+      go allowed (Err x) e =
           k.wire.hears.unheard mid b allowed bytes
           (λ last busy sink known same.
-          let h : Unheard n ≡ HeardReply last busy sink = sym e ∙ ap (heard_of mid) same ∙ reply_reads mid last busy sink allowed known in
+          let h : Err x ≡ status last busy sink = sym e ∙ ap (heard_of mid) same ∙ reply_reads mid last busy sink allowed known in
           let z : ◌≡◌ {A = ℕ} 0 1 = cc in
           omega arith)
-          ∙ ap no (unheard_35 mid b n allowed e)
+          ∙ ap no (unheard_35 mid b x allowed e)
           ∙ ap status_told (sym e)
 
       guarded : (t : Bool) → is_forbidden mid ≡ t → u.hear mid b ≡ status_told (heard_of mid b)
@@ -180,7 +182,7 @@ module _ {R : Type 0} (u : Calls R) (k : Keeps u) where
     abbrev s : Sign
     s = u.holds r
 
-    joins_same : (mid : ℕ) (b : List ℕ) (id total position len : ℕ) → read_of mid b ≡ Normal id total position len
+    joins_same : (mid : ℕ) (b : List ℕ) (id total position len : ℕ) → read_of mid b ≡ Ok (Normal id total position len)
         → SameHeard u (u.receive r mid b) (ours.receive s mid b)
     joins_same mid b id total position len e =
         go (has_of s.completed id) (eqb s.run.len 0) (begins_of (collected_of s) id) (eqb s.slots.total total) (eqb (get_or s.slots.lens position 0) 0)
@@ -239,11 +241,11 @@ module _ {R : Type 0} (u : Calls R) (k : Keeps u) where
     sound_receive : (mid : ℕ) (b : List ℕ) → SameHeard u (u.receive r mid b) (ours.receive s mid b)
     sound_receive mid b = go (read_of mid b) refl
       where
-        go : (x : Reading) → read_of mid b ≡ x → SameHeard u (u.receive r mid b) (ours.receive s mid b)
-        go QueryRead e = stays_same u r _ _ ((k.obeys.answers r good).queried mid b e) _ ((ours_obeys.answers s good).queried mid b e)
-        go ResetRead e = heeds_same u _ _ _ ((k.obeys.answers r good).cleared mid b e) ((ours_obeys.answers s good).cleared mid b e)
-        go (Normal id total position len) e = joins_same mid b id total position len e
-        go (Unread n) e = stays_same u r _ _ ((k.obeys.answers r good).unread mid b n e) _ ((ours_obeys.answers s good).unread mid b n e)
+        go : (x : Result Packet Refusal) → read_of mid b ≡ x → SameHeard u (u.receive r mid b) (ours.receive s mid b)
+        go (Ok QueryRead) e = stays_same u r _ _ ((k.obeys.answers r good).queried mid b e) _ ((ours_obeys.answers s good).queried mid b e)
+        go (Ok ResetRead) e = heeds_same u _ _ _ ((k.obeys.answers r good).cleared mid b e) ((ours_obeys.answers s good).cleared mid b e)
+        go (Ok (Normal id total position len)) e = joins_same mid b id total position len e
+        go (Err x) e = stays_same u r _ _ ((k.obeys.answers r good).unread mid b x e) _ ((ours_obeys.answers s good).unread mid b x e)
 
     sound_step : SameNext u (u.step r) (ours.step s)
     sound_step =

@@ -12,10 +12,12 @@ use Rattle.basis.specs.Rows.{Row, first_of}
 use Rattle.basis.specs.Told.{Told}
 use Rattle.basis.proofs.Choices.{when_true}
 use Rattle.basis.proofs.Tests.{tests}
+use Rattle.std.specs.Prelude.{Ok, Result}
+use Rattle.refusal.specs.declared.Refusal.{Refusal}
 use Rattle.packet.specs.Mid.{mid_row}
 use Rattle.packet.specs.Write.{short_by, buffer_of, written_of}
 use Rattle.reader.specs.Read.{read_of}
-use Rattle.reader.specs.declared.read.Reading.TheVariants.{Normal}
+use Rattle.reader.specs.declared.read.Packet.TheVariants.{Normal}
 use Rattle.machine.specs.declared.Answer.TheVariants.{Idle}
 use Rattle.perform.specs.Price.{answer_of as performed_of}
 use Rattle.perform.specs.declared.settings.Settings.{Settings}
@@ -47,7 +49,7 @@ use Rattle.promises.specs.Wire.{Lays}
 use Rattle.promises.specs.Record.{Heeds, Answers, Joins, Steps, Clears, Obeys, stays}
 
 -- a record of ours that stays, told an outcome
-still : (s : Sign) (o : Outcome) (x : Received) → x ≡ stays_of s o → heard_in x ≡ stays s (heard_in (stays_of s o)).told
+still : (s : Sign) (o : Result Outcome Refusal) (x : Received) → x ≡ stays_of s o → heard_in x ≡ stays s (heard_in (stays_of s o)).told
 unfolding stays_of
 still s o x e = ap heard_in e
 
@@ -63,12 +65,12 @@ pub ours_answers : (s : Sign) → Good s → Answers ours s
 unfolding stays_of
 ours_answers s good =
     record {
-      unread = λ mid b n e. still s _ _ (unread s good mid b n e);
+      unread = λ mid b e q. still s _ _ (unread s good mid b e q);
       queried = λ mid b e. still s _ _ (queried s good mid b e);
       cleared = λ mid b e. heeds _ _ (cleared s good mid b e);
     }
 
-pub ours_joins : (s : Sign) → Good s → (mid : ℕ) (b : List ℕ) (id total position len : ℕ) → read_of mid b ≡ Normal id total position len
+pub ours_joins : (s : Sign) → Good s → (mid : ℕ) (b : List ℕ) (id total position len : ℕ) → read_of mid b ≡ Ok (Normal id total position len)
     → Joins ours s mid b id total position (take len (drop 5 b))
 unfolding stays_of
 ours_joins s good mid b id total position len e =

@@ -2,10 +2,15 @@
 use Prim.Native.Nat.{ℕ, zero, suc}
 use mathlib.Core.Bool.{Bool, false, not}
 use mathlib.Core.List.{List, [], ◌∷◌}
-use mathlib.Core.Path.{◌≡◌, refl, ap}
+use mathlib.Core.Path.{◌≡◌, refl, sym, ap}
 use Rattle.basis.specs.Choice.{when}
 use Rattle.basis.specs.Rows.{Row, first_of}
 use Rattle.basis.specs.Told.{no}
+use Rattle.std.specs.Prelude.{Result, Ok, Err}
+use Rattle.refusal.specs.Refusal.{refusal_of}
+use Rattle.refusal.proofs.Names.{name_back}
+use Rattle.refusal.specs.declared.Refusal.{Refusal}
+use Rattle.refusal.specs.declared.Refusal.TheVariants.{Unsound}
 use Rattle.packet.specs.Mid.{mid_row}
 use Rattle.packet.specs.Wire.{query_of, reset_of as reset_packet, packet_at, transmission_of, reply_of}
 use Rattle.packet.specs.Write.{short_by, packet_rows, transmission_rows, buffer_of, written_of}
@@ -15,7 +20,7 @@ use Rattle.machine.specs.declared.Answer.{Answer}
 use Rattle.machine.specs.declared.Answer.TheVariants.{Did, Idle, Refused as Stopped}
 use Rattle.hear.specs.Hear.{told_of as outcome_told}
 use Rattle.hear.specs.declared.Outcome.{Outcome}
-use Rattle.hear.specs.declared.Outcome.TheVariants.{Query, Reset, Repeat, Stored, Released, Refused}
+use Rattle.hear.specs.declared.Outcome.TheVariants.{Query, Reset, Repeat, Stored, Released}
 use Rattle.sign.specs.Join.{stays_of}
 use Rattle.sign.specs.Receive.{receive_of}
 use Rattle.sign.specs.Reset.{reset_of, cleared_of}
@@ -35,13 +40,13 @@ use Rattle.promises.specs.Unit.{left_by, ours, heard_in, stepped_in, cleared_in}
 use Rattle.promises.specs.Safe.{Leaves, NoTrip}
 
 -- an outcome, or a step's answer, that is told with a number is that refusal
-pub refused_is : (o : Outcome) → ((outcome_told o).number ≡ 0 → ⊥) → o ≡ Refused (outcome_told o).number
-refused_is Query h = absurd (h refl)
-refused_is Reset h = absurd (h refl)
-refused_is Repeat h = absurd (h refl)
-refused_is Stored h = absurd (h refl)
-refused_is (Released v) h = absurd (h refl)
-refused_is (Refused n) h = refl
+pub refused_is : (o : Result Outcome Refusal) → ((outcome_told o).number ≡ 0 → ⊥) → o ≡ Err (refusal_of (outcome_told o).number)
+refused_is (Ok Query) h = absurd (h refl)
+refused_is (Ok Reset) h = absurd (h refl)
+refused_is (Ok Repeat) h = absurd (h refl)
+refused_is (Ok Stored) h = absurd (h refl)
+refused_is (Ok (Released v)) h = absurd (h refl)
+refused_is (Err e) h = ap (λ (x : Refusal). Err x) (sym (name_back e))
 
 stopped_is : (a : Answer) → ((answer_told a).number ≡ 0 → ⊥) → a ≡ Stopped (answer_told a).number
 stopped_is (Did x) h = absurd (h refl)
@@ -65,7 +70,7 @@ unfolding cleared_of
 unsound_clears s e = ap (λ (t : Bool). (cleared_in (whether t)).told) e
   where
     whether : Bool → Cleared
-    whether t = when t (record { sign = reset_of s; outcome = Reset }) (record { sign = s; outcome = Refused 16 })
+    whether t = when t (record { sign = reset_of s; outcome = Ok Reset }) (record { sign = s; outcome = Err Unsound })
 
 pub ours_never_trips : NoTrip ours
 unfolding stays_of
@@ -78,7 +83,7 @@ ours_never_trips =
       receive_leaves = λ s mid b h. receive_still s mid b (ap moves_of (refused_is (receive_of s mid b).outcome h));
       receive_empty = λ s mid b h. receive_none s mid b (ap moves_of (refused_is (receive_of s mid b).outcome h));
       step_leaves = λ s h. step_still s (answer_told (step_of s).answer).number (stopped_is (step_of s).answer h);
-      clear_leaves = λ s h. reset_still s (outcome_told (cleared_of s).outcome).number (refused_is (cleared_of s).outcome h);
+      clear_leaves = λ s h. reset_still s (refusal_of (outcome_told (cleared_of s).outcome).number) (refused_is (cleared_of s).outcome h);
       query_leaves = λ mid. leaves (λ out. mid_row mid ∷ short_by (query_of mid) out ∷ []) (query_of mid);
       reset_leaves = λ mid. leaves (λ out. mid_row mid ∷ short_by (reset_packet mid) out ∷ []) (reset_packet mid);
       write_leaves = λ mid id body position. leaves (λ out. mid_row mid ∷ packet_rows mid id body position out) (packet_at mid id body position);

@@ -2,7 +2,7 @@
 use Prim.Native.Nat.{ℕ, ◌≤◌, ◌<◌}
 use mathlib.Core.Bool.{Bool, true, false}
 use mathlib.Core.List.{List, [], ◌∷◌}
-use mathlib.Core.Path.{◌≡◌, refl, sym, ap, ◌∙◌}
+use mathlib.Core.Path.{◌≡◌, refl, sym, ap, subst, ◌∙◌}
 use native.Mathlib.Omega.{arith}
 use lib.Dec.{eqb}
 use lib.ListN.{length, get_or, take, drop, length-drop}
@@ -13,19 +13,23 @@ use Rattle.basis.specs.Rows.{Row, first_of}
 use Rattle.basis.specs.Told.{no}
 use Rattle.basis.proofs.Laid.{take_laid, drop_laid}
 use Rattle.basis.proofs.Tests.{tests}
+use Rattle.std.specs.Prelude.{Result, Err, Ok}
+use Rattle.refusal.specs.Refusal.{refusal_of}
+use Rattle.reader.specs.Read.{Lowest}
+use Rattle.refusal.specs.declared.Refusal.{Refusal}
+use Rattle.refusal.specs.declared.Refusal.TheVariants.{NoReply}
 use Rattle.packet.specs.Mid.{Allowed, mid_row}
 use Rattle.packet.specs.Wire.{fifth_of, query_of, reset_of, total_of, part_of, packet_at, transmission_of, reply_of}
 use Rattle.packet.specs.Write.{short_by, packet_rows, transmission_rows, buffer_of, written_of}
 use Rattle.packet.proofs.Parts.{part_length}
 use Rattle.packet.proofs.Stands.{at_length, part_stands}
 use Rattle.reader.specs.Read.{read_of, told_of as read_told}
-use Rattle.reader.specs.declared.read.Reading.{Reading}
+use Rattle.reader.specs.declared.read.Packet.{Packet}
 use Rattle.reader.proofs.ReadBack.{query_reads, reset_reads, body_reads, normal_reads}
 use Rattle.reader.proofs.Unique.{normal_only, same_fields, query_only, reset_only}
-use Rattle.reader.proofs.Refusals.{refused_lowest, lowest_refused, no_packet}
-use Rattle.reply.specs.Reply.{is_last, is_reply, heard_from, heard_of, reply_rows, told_of as status_told}
+use Rattle.reader.proofs.Refusals.{refused_lowest, lowest_named, lowest_refused, no_packet}
+use Rattle.reply.specs.Reply.{is_last, is_reply, heard_from, heard_of, reply_rows, told_of as status_told, status}
 use Rattle.reply.specs.declared.Status.{Status}
-use Rattle.reply.specs.declared.Status.TheVariants.{Heard, Refused as Unheard}
 use Rattle.reply.proofs.Replies.{reply_reads, reply_only, same_reply, heard_past}
 use Rattle.promises.specs.Unit.{left_by, ours}
 use Rattle.promises.specs.Wire.{ReadsBack, HearsBack, Lays, Reads, Hears, Writes, WireHolds}
@@ -87,7 +91,7 @@ module _ (mid last : ℕ) (busy sink : Bool) (out : List ℕ) (allowed : Allowed
         behind = ap (drop 8) laying ∙ drop_laid p out;
         apart = λ m z.
             let e = no_packet m mid last busy sink in
-            let n = sym (ap (λ (x : List ℕ). (read_told (read_of m x)).number) front ∙ ap (λ (x : Reading). (read_told x).number) e) ∙ z in
+            let n = sym (ap (λ (x : List ℕ). (read_told (read_of m x)).number) front ∙ ap (λ (x : Result Packet Refusal). (read_told x).number) e) ∙ z in
             omega (arith, read_no_lem m (reply_of mid last busy sink) _ e);
       }
 
@@ -100,20 +104,26 @@ ours_reads =
       reset_only = λ mid b bytes e. reset_only mid b bytes (reset_told (read_of mid b) e);
       normal = λ mid id total position part allowed e. ap read_told (normal_reads mid id total position part allowed e);
       normal_only = λ mid b id total position len bytes e. normal_only mid b id total position len bytes (normal_told (read_of mid b) id total position len e);
-      lowest = λ mid b k allowed e. refused_lowest mid b k allowed (refused_told (read_of mid b) k e);
-      refused = λ mid b k allowed l. ap read_told (lowest_refused mid b k allowed l);
+      lowest = λ mid b k allowed e.
+          let t = refused_told (read_of mid b) k e in
+          subst (Lowest mid b) t.1 (refused_lowest mid b (refusal_of k) allowed t.0);
+      refused = λ mid b k allowed l.
+          let n = lowest_named mid b k l in
+          ap read_told (lowest_refused mid b (refusal_of k) allowed (subst (Lowest mid b) (sym n) l)) ∙ ap no n;
     }
 
 -- what was heard has a last ID that a sign may have
 told_last : (t v w : Bool) (l last : ℕ) (b c busy sink : Bool) → is_last l ≡ v
-    → when t (when (v and w) (Heard l b c) (Unheard 35)) (Unheard 35) ≡ Heard last busy sink
+    → when t (when (v and w) (status l b c) (Err NoReply)) (Err NoReply) ≡ status last busy sink
     → is_last last ≡ true
-told_last true true true l last b c busy sink h e = let z : l ≡ last = cc in ap is_last (sym z) ∙ h
+told_last true true true l last b c busy sink h e =
+    let same : ◌≡◌ {A = Status} (record { last = l; busy = b; sink = c }) (record { last = last; busy = busy; sink = sink }) = cc in
+    ap is_last (sym (ap (λ (s : Status). s.last) same)) ∙ h
 told_last true true false l last b c busy sink h e = let z : ◌≡◌ {A = ℕ} 0 1 = cc in absurd (omega arith)
 told_last true false w l last b c busy sink h e = let z : ◌≡◌ {A = ℕ} 0 1 = cc in absurd (omega arith)
 told_last false v w l last b c busy sink h e = let z : ◌≡◌ {A = ℕ} 0 1 = cc in absurd (omega arith)
 
-pub heard_last : (mid : ℕ) (b : List ℕ) (last : ℕ) (busy sink : Bool) → heard_of mid b ≡ Heard last busy sink → is_last last ≡ true
+pub heard_last : (mid : ℕ) (b : List ℕ) (last : ℕ) (busy sink : Bool) → heard_of mid b ≡ status last busy sink → is_last last ≡ true
 unfolding heard_from
 heard_last mid b last busy sink e =
     told_last (is_reply mid b) (is_last (get_or b 3 0)) _ (get_or b 3 0) last (eqb (get_or b 4 0) 0x42) (eqb (get_or b 5 0) 0x53) busy sink refl
@@ -126,12 +136,12 @@ ours_hears =
       unheard = λ mid b allowed bytes none. go mid b allowed bytes none (heard_of mid b) refl;
     }
   where
-    go : (mid : ℕ) (b : List ℕ) → Allowed mid → Bytes b → ((last : ℕ) (busy sink : Bool) → is_last last ≡ true → b ≡ reply_of mid last busy sink → ⊥) → (x : Status)
+    go : (mid : ℕ) (b : List ℕ) → Allowed mid → Bytes b → ((last : ℕ) (busy sink : Bool) → is_last last ≡ true → b ≡ reply_of mid last busy sink → ⊥) → (x : Result Status Refusal)
         → heard_of mid b ≡ x
         → status_told (heard_of mid b) ≡ no 35
-    go mid b allowed bytes none (Heard last busy sink) e =
-        absurd (none last busy sink (heard_last mid b last busy sink e) (reply_only mid b last busy sink bytes e))
-    go mid b allowed bytes none (Unheard n) e = ap status_told e ∙ ap no (sym (unheard_35 mid b n allowed e))
+    go mid b allowed bytes none (Ok s) e =
+        absurd (none s.last s.busy s.sink (heard_last mid b s.last s.busy s.sink e) (reply_only mid b s.last s.busy s.sink bytes e))
+    go mid b allowed bytes none (Err x) e = ap status_told e ∙ ap no (sym (unheard_35 mid b x allowed e))
 
 -- a writer of ours, by its rows
 pub lays : (rows : List Row) (bytes out : List ℕ) → Lays rows bytes out (left_by rows bytes out)

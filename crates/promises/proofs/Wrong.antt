@@ -7,6 +7,8 @@ use native.Mathlib.Omega.{arith}
 use lib.ListN.{length, get_or, replicate}
 use Rattle.basis.specs.Bytes.{Bytes, sum, laid}
 use Rattle.basis.specs.Told.{Told}
+use Rattle.std.specs.Prelude.{Err}
+use Rattle.refusal.specs.declared.Refusal.TheVariants.{TooFewBytes}
 use Rattle.packet.specs.Mid.{is_forbidden}
 use Rattle.packet.specs.Wire.{packet_of, packets_of, packet_at, query_of, reply_of, part_of}
 use Rattle.program.specs.Command.{read_of as command_at}
@@ -16,7 +18,6 @@ use Rattle.perform.specs.declared.settings.Settings.{Settings}
 use Rattle.judge.specs.Standing.{stand_of}
 use Rattle.judge.specs.Verdict.{judge_of}
 use Rattle.reader.specs.Read.{lowest_of, read_of}
-use Rattle.reader.specs.declared.read.Reading.TheVariants.{Refused as Unread}
 use Rattle.reader.proofs.Refusals.{refused_lowest}
 use Rattle.reply.specs.Reply.{is_last, heard_from, heard_of}
 use Rattle.course.specs.Steps.{settle}
@@ -90,14 +91,14 @@ eager_fails k =
     let n : ◌≡◌ {A = ℕ} 2 1 = ap (value_at 0) (k.wire.reads.queried 0x80 refl) in
     omega arith
 
-nothing_read : read_of 0x80 [] ≡ Unread 1
+nothing_read : read_of 0x80 [] ≡ Err TooFewBytes
 unfolding is_forbidden lowest_of read_of
 nothing_read = refl
 
 pub noisy_fails : Keeps noisy → ⊥
 unfolding is_forbidden
 noisy_fails k =
-    let n : ◌≡◌ {A = ℕ} 2 0 = ap (value_at 0) (k.wire.reads.refused 0x80 [] 1 refl (refused_lowest 0x80 [] 1 refl nothing_read)) in
+    let n : ◌≡◌ {A = ℕ} 2 0 = ap (value_at 0) (k.wire.reads.refused 0x80 [] 1 refl (refused_lowest 0x80 [] TooFewBytes refl nothing_read)) in
     omega arith
 
 query_bytes : Bytes query7_f

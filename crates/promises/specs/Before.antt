@@ -1,15 +1,15 @@
 -- The calls for C that take a MID, without the guard of C-15: N251, N16 and N252 in the order that N0 had before it. They
 -- are those of version 1.1, but that a sign knows four completed IDs, and the image has room for them (C-23).
-use Rattle.std.specs.Prelude.{ℕ, Bool, List, [], ◌∷◌, ◌≡◌}
+use Rattle.std.specs.Prelude.{ℕ, Bool, List, [], ◌∷◌, ◌≡◌, Err}
 use Rattle.basis.specs.Bytes.{laid}
 use Rattle.basis.specs.Choice.{when}
 use Rattle.basis.specs.Rows.{Row}
+use Rattle.refusal.specs.declared.Refusal.TheVariants.{Unsound}
 use Rattle.packet.specs.Mid.{Allowed, mid_row}
 use Rattle.packet.specs.Write.{short_by}
 use Rattle.reader.specs.Read.{lowest_of, told_of as read_told}
 use Rattle.reply.specs.Reply.{heard_from, told_of as status_told}
 use Rattle.hear.specs.Hear.{told_of as outcome_told}
-use Rattle.hear.specs.declared.Outcome.TheVariants.{Refused}
 use Rattle.sign.specs.Join.{stays_of}
 use Rattle.sign.specs.Receive.{heard_of}
 use Rattle.sign.specs.Sound.{sound_of}
@@ -24,7 +24,7 @@ use Rattle.cabi.specs.Calls.{Tells, image_row, guarded, kept_of, read_no, read_a
 
 -- a receive of a record
 abbrev pub received_before : Sign → ℕ → List ℕ → Received
-received_before s mid b = when (sound_of s) (heard_of s b (lowest_of mid b)) (stays_of s (Refused 16))
+received_before s mid b = when (sound_of s) (heard_of s b (lowest_of mid b)) (stays_of s (Err Unsound))
 
 -- reading a packet, and reading a reply
 abbrev pub read_no_before : ℕ → (bytes answer : List ℕ) → ℕ

@@ -1,12 +1,14 @@
 -- The examples that the rules mark with a star, as one table under one statement (P5).
 use Rattle.std.specs.Prelude.{ℕ, false, List, [], ◌∷◌, ◌++◌, ◌≡◌, replicate, Result, Ok, Err}
+use Rattle.refusal.specs.declared.Refusal.{Refusal}
+use Rattle.refusal.specs.declared.Refusal.TheVariants.{WrongChecksum, OtherMid, ForbiddenMid}
 use Rattle.packet.specs.Wire.{packet_of, query_of, reset_of}
 use Rattle.reader.specs.Read.{read_of}
-use Rattle.reader.specs.declared.read.Reading.{Reading}
-use Rattle.reader.specs.declared.read.Reading.TheVariants.{Normal, Refused}
 use Rattle.judge.specs.Verdict.{Verdict, judge_of}
 use Rattle.refusal.specs.declared.Fault.{Fault}
 use Rattle.refusal.specs.Refusal.{fault}
+use Rattle.reader.specs.declared.read.Packet.{Packet}
+use Rattle.reader.specs.declared.read.Packet.TheVariants.{Normal}
 use Rattle.reckon.specs.Forecast.{forecast_of}
 use Rattle.totals.specs.Totals.{totals_of}
 use Rattle.reckon.specs.declared.reckon.Foretold.{Foretold}
@@ -17,7 +19,7 @@ use Rattle.sign.specs.Tell.{says_of}
 -- what an example says: bytes that a sign of a MID reads so, bytes that are the very packet or reply, a body that is judged so, a
 -- body that is foretold so at pace 4 and one scan
 pub data Example : Type 0 where
-  reads : (mid : ℕ) → List ℕ → Reading → Example
+  reads : (mid : ℕ) → List ℕ → Result Packet Refusal → Example
   carries : (bytes packet : List ℕ) → Example
   judges : List ℕ → Verdict → Example
   foretells : List ℕ → Result Foretold Fault → Example
@@ -83,11 +85,11 @@ costs steps scans millis pace each = Ok (Ends (totals_of steps scans millis) pac
 
 abbrev pub starred : List Example
 starred =
-    reads 0x80 (packet 0x5F) (Normal 5 1 0 5)
+    reads 0x80 (packet 0x5F) (Ok (Normal 5 1 0 5))
     ∷ carries (packet 0x5F) (packet_of 0x80 5 0x10 hi)
-    ∷ reads 0x80 (packet 0x60) (Refused 4)
-    ∷ reads 0x7F query7_f (Refused 19)
-    ∷ reads 0x80 query7_f (Refused 5)
+    ∷ reads 0x80 (packet 0x60) (Err WrongChecksum)
+    ∷ reads 0x7F query7_f (Err ForbiddenMid)
+    ∷ reads 0x80 query7_f (Err OtherMid)
     ∷ carries (0x80 ∷ 0x7F ∷ 0x07 ∷ 0x40 ∷ 0x10 ∷ 0x00 ∷ 0xAA ∷ []) (query_of 0x80)
     ∷ carries (0x80 ∷ 0x7F ∷ 0x07 ∷ 0x41 ∷ 0x10 ∷ 0x00 ∷ 0xA9 ∷ []) (reset_of 0x80)
     ∷ carries (0x81 ∷ 0x7F ∷ 0x08 ∷ 0x41 ∷ 0x52 ∷ 0x46 ∷ 0x00 ∷ 0x1F ∷ []) (says_of power_on 0x80 false)

@@ -1,6 +1,6 @@
 -- The delivery: a body written as a transmission (W16), its packets taken out of the buffer by walking over it, and
 -- received in order. Demand 2, by J9 to J12, and J4 for copies.
-use Rattle.std.specs.Prelude.{ℕ, zero, suc, ◌<◌, Bool, List, [], ◌≡◌, length, get_or, take, drop, replicate, Err}
+use Rattle.std.specs.Prelude.{ℕ, zero, suc, ◌<◌, Bool, List, [], ◌≡◌, length, get_or, take, drop, replicate, Err, Ok}
 use Rattle.packet.specs.Wire.{total_of}
 use Rattle.room.specs.Room.{room_of}
 use Rattle.judge.specs.Verdict.{judge_of}
@@ -31,9 +31,9 @@ answered u r mid buffer p = u.receive (behind u r mid buffer p) mid (packet_in b
 
 -- a body delivered by the packets in this buffer: released by the last and by no other, with the same bytes
 pub record Gets {R : Type 0} (u : Calls R) (r : R) (mid id : ℕ) (body buffer : List ℕ) : Type 0 where
-  pub stored : (p : ℕ) → suc p < total_of body → (answered u r mid buffer p).told ≡ outcome_told Stored
+  pub stored : (p : ℕ) → suc p < total_of body → (answered u r mid buffer p).told ≡ outcome_told (Ok Stored)
   pub nothing : (p : ℕ) → suc p < total_of body → (answered u r mid buffer p).body ≡ []
-  pub released : (p : ℕ) → suc p ≡ total_of body → (answered u r mid buffer p).told ≡ outcome_told (Released (judge_of body))
+  pub released : (p : ℕ) → suc p ≡ total_of body → (answered u r mid buffer p).told ≡ outcome_told (Ok (Released (judge_of body)))
   pub same : (p : ℕ) → suc p ≡ total_of body → (answered u r mid buffer p).body ≡ body
   -- the ID is then completed, and nothing is collected
   pub completed : (u.holds (behind u r mid buffer (total_of body))).completed ≡ added_of (u.holds r).completed id
@@ -47,7 +47,7 @@ pub record Gets {R : Type 0} (u : Calls R) (r : R) (mid id : ℕ) (body buffer :
   pub rests : (w : Fault) → judge_of body ≡ Err w → (u.holds (behind u r mid buffer (total_of body))).run ≡ (u.holds r).run
   -- and a copy of any of those packets is a Repeat that changes nothing
   pub repeats : (p : ℕ) → p < total_of body
-      → u.receive (behind u r mid buffer (total_of body)) mid (packet_in buffer p) ≡ stays (behind u r mid buffer (total_of body)) (outcome_told Repeat)
+      → u.receive (behind u r mid buffer (total_of body)) mid (packet_in buffer p) ≡ stays (behind u r mid buffer (total_of body)) (outcome_told (Ok Repeat))
 
 -- the promise: of every transmission that was written, into whatever buffer
 abbrev pub Delivers : {R : Type 0} → Calls R → Type 0

@@ -28,7 +28,7 @@ AllYes (t ∷ ts) = (t.number ≡ 0) × AllYes ts
 
 -- bytes that are answered Repeat and change nothing
 abbrev pub Repeated : {R : Type 0} → Calls R → R → ℕ → List ℕ → Type 0
-Repeated u r mid b = u.receive r mid b ≡ stays r (outcome_told Repeat)
+Repeated u r mid b = u.receive r mid b ≡ stays r (outcome_told (Ok Repeat))
 
 -- from the record t after the delivery, told this forecast: any mix of steps and bytes that are no reset for this MID
 pub record Arrives {R : Type 0} (u : Calls R) (t : R) (mid : ℕ) (body buffer : List ℕ) (foretold : Told) : Type 0 where

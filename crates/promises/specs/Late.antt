@@ -1,10 +1,10 @@
 -- Late copies (C-23): after lines a sign knows the last four of their numbers. A packet of one of these is a Repeat that
 -- changes nothing, and a number that was pushed out is new again. By J4, J5, J6 and J10.
-use Rattle.std.specs.Prelude.{ℕ, true, false, List, [], ◌∷◌, ◌++◌, ◌≡◌, take, drop, replicate}
+use Rattle.std.specs.Prelude.{ℕ, true, false, List, [], ◌∷◌, ◌++◌, ◌≡◌, take, drop, replicate, Ok}
 use Rattle.basis.specs.Told.{no}
 use Rattle.packet.specs.Wire.{total_of}
 use Rattle.reader.specs.Read.{read_of}
-use Rattle.reader.specs.declared.read.Reading.TheVariants.{Normal}
+use Rattle.reader.specs.declared.read.Packet.TheVariants.{Normal}
 use Rattle.completed.specs.Completed.{ids_of, is_among, differ_of}
 use Rattle.collect.specs.Slots.{begun_of, stored_of}
 use Rattle.hear.specs.Join.{begins_of}
@@ -57,10 +57,10 @@ Came u mid (x ∷ xs) r =
 
 -- packets that come late, to a sign that knows four numbers and has forgotten another
 pub record Late {R : Type 0} (u : Calls R) (mid : ℕ) (r : R) (four : List ℕ) (other : ℕ) : Type 0 where
-  pub repeats : (b : List ℕ) (id total position len : ℕ) → read_of mid b ≡ Normal id total position len → is_among id four ≡ true → Repeated u r mid b
-  pub waits : (b : List ℕ) (total position len : ℕ) → read_of mid b ≡ Normal other total position len → ((u.holds r).run.len ≡ 0 → ⊥)
+  pub repeats : (b : List ℕ) (id total position len : ℕ) → read_of mid b ≡ Ok (Normal id total position len) → is_among id four ≡ true → Repeated u r mid b
+  pub waits : (b : List ℕ) (total position len : ℕ) → read_of mid b ≡ Ok (Normal other total position len) → ((u.holds r).run.len ≡ 0 → ⊥)
       → u.receive r mid b ≡ stays r (no 12)
-  pub begins : (b : List ℕ) (total position len : ℕ) → read_of mid b ≡ Normal other total position len → (u.holds r).run.len ≡ 0
+  pub begins : (b : List ℕ) (total position len : ℕ) → read_of mid b ≡ Ok (Normal other total position len) → (u.holds r).run.len ≡ 0
       → begins_of (collected_of (u.holds r)) other ≡ true
       → Heeds u (u.receive r mid b) (counted_of (u.holds r) (stored_of (begun_of other total) position (take len (drop 5 b))))
 

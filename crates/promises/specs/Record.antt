@@ -1,11 +1,13 @@
 -- The record: joining, rule by rule (J2 to J13), what a reset (J14) and power-on (J15) leave, a step (S1, S12), and
 -- what a sign tells of itself: the reply (J16), the copy of the running body (S28), and the repeater's part (S29, S30).
-use Rattle.std.specs.Prelude.{ℕ, ◌+◌, ◌≤◌, ◌<◌, Bool, true, false, List, [], ◌∷◌, ◌≡◌, length, get_or, take, drop}
+use Rattle.std.specs.Prelude.{ℕ, ◌+◌, ◌≤◌, ◌<◌, Bool, true, false, List, [], ◌∷◌, ◌≡◌, length, get_or, take, drop, Ok, Err}
 use Rattle.basis.specs.Told.{Told, no}
+use Rattle.refusal.specs.Refusal.{number_of}
+use Rattle.refusal.specs.declared.Refusal.{Refusal}
 use Rattle.packet.specs.Mid.{mid_row}
 use Rattle.packet.specs.Write.{short_by}
 use Rattle.reader.specs.Read.{read_of}
-use Rattle.reader.specs.declared.read.Reading.TheVariants.{Query as QueryRead, Reset as ResetRead, Normal, Refused as Unread}
+use Rattle.reader.specs.declared.read.Packet.TheVariants.{Query as QueryRead, Reset as ResetRead, Normal}
 use Rattle.completed.specs.Completed.{has_of}
 use Rattle.collect.specs.Slots.{begun_of, stored_of}
 use Rattle.machine.specs.Step.{step_of as run_step, told_of as answer_told}
@@ -35,14 +37,14 @@ pub record Heeds {R : Type 0} (u : Calls R) (h : Heard R) (x : Received) : Type 
 
 -- bytes that are no normal packet
 pub record Answers {R : Type 0} (u : Calls R) (r : R) : Type 0 where
-  pub unread : (mid : ℕ) (b : List ℕ) (n : ℕ) → read_of mid b ≡ Unread n → u.receive r mid b ≡ stays r (no n)
-  pub queried : (mid : ℕ) (b : List ℕ) → read_of mid b ≡ QueryRead → u.receive r mid b ≡ stays r (outcome_told Query)
-  pub cleared : (mid : ℕ) (b : List ℕ) → read_of mid b ≡ ResetRead → Heeds u (u.receive r mid b) (stays_of (reset_of (u.holds r)) Reset)
+  pub unread : (mid : ℕ) (b : List ℕ) (e : Refusal) → read_of mid b ≡ Err e → u.receive r mid b ≡ stays r (no (number_of e))
+  pub queried : (mid : ℕ) (b : List ℕ) → read_of mid b ≡ Ok QueryRead → u.receive r mid b ≡ stays r (outcome_told (Ok Query))
+  pub cleared : (mid : ℕ) (b : List ℕ) → read_of mid b ≡ Ok ResetRead → Heeds u (u.receive r mid b) (stays_of (reset_of (u.holds r)) (Ok Reset))
 
 -- a normal packet, in the order of the rules: a completed number; Busy; another number than the one collected; and of the same
 -- number another N, a free position, a position held with equal data, and one held with other data
 pub record Joins {R : Type 0} (u : Calls R) (r : R) (mid : ℕ) (b : List ℕ) (id total position : ℕ) (part : List ℕ) : Type 0 where
-  pub repeats : has_of (u.holds r).completed id ≡ true → u.receive r mid b ≡ stays r (outcome_told Repeat)
+  pub repeats : has_of (u.holds r).completed id ≡ true → u.receive r mid b ≡ stays r (outcome_told (Ok Repeat))
   pub waits : has_of (u.holds r).completed id ≡ false → ((u.holds r).run.len ≡ 0 → ⊥) → u.receive r mid b ≡ stays r (no 12)
   pub begins : has_of (u.holds r).completed id ≡ false → (u.holds r).run.len ≡ 0 → begins_of (collected_of (u.holds r)) id ≡ true
       → Heeds u (u.receive r mid b) (counted_of (u.holds r) (stored_of (begun_of id total) position part))
@@ -57,7 +59,7 @@ pub record Joins {R : Type 0} (u : Calls R) (r : R) (mid : ℕ) (b : List ℕ) (
       → (u.holds r).slots.total ≡ total
       → (get_or (u.holds r).slots.lens position 0 ≡ 0 → ⊥)
       → slot_of (collected_of (u.holds r)) position ≡ part
-      → u.receive r mid b ≡ stays r (outcome_told Repeat)
+      → u.receive r mid b ≡ stays r (outcome_told (Ok Repeat))
   pub differs : has_of (u.holds r).completed id ≡ false → (u.holds r).run.len ≡ 0 → begins_of (collected_of (u.holds r)) id ≡ false
       → (u.holds r).slots.total ≡ total
       → (get_or (u.holds r).slots.lens position 0 ≡ 0 → ⊥)
@@ -72,13 +74,13 @@ pub record Steps {R : Type 0} (u : Calls R) (r : R) : Type 0 where
 
 -- a reset by a call
 pub record Clears {R : Type 0} (u : Calls R) (r : R) : Type 0 where
-  pub told : (u.clear r).told ≡ outcome_told Reset
+  pub told : (u.clear r).told ≡ outcome_told (Ok Reset)
   pub next : u.holds (u.clear r).next ≡ reset_of (u.holds r)
 
 pub record Obeys {R : Type 0} (u : Calls R) : Type 0 where
   pub powers : u.holds u.power ≡ power_on
   pub answers : (r : R) → Good (u.holds r) → Answers u r
-  pub joins : (r : R) → Good (u.holds r) → (mid : ℕ) (b : List ℕ) (id total position len : ℕ) → read_of mid b ≡ Normal id total position len
+  pub joins : (r : R) → Good (u.holds r) → (mid : ℕ) (b : List ℕ) (id total position len : ℕ) → read_of mid b ≡ Ok (Normal id total position len)
       → Joins u r mid b id total position (take len (drop 5 b))
   pub steps : (r : R) → Good (u.holds r) → Steps u r
   pub clears : (r : R) → Good (u.holds r) → Clears u r

@@ -2,14 +2,14 @@
 use Rattle.std.specs.Prelude.{ℕ, suc, ◌-◌, Bool, false, List, [], ◌∷◌, ◌++◌, eqb, ltb, length, get_or, take, drop, replicate, Result, Ok, Err}
 use Rattle.basis.specs.Choice.{when, ◌and◌, ◌or◌}
 use Rattle.basis.specs.Told.{Told, yes, no}
+use Rattle.refusal.specs.declared.Refusal.{Refusal}
 use Rattle.packet.specs.Mid.{is_forbidden, mid_row}
 use Rattle.packet.specs.Wire.{reply_of}
 use Rattle.packet.specs.Write.{short_by}
 use Rattle.reader.specs.Read.{read_of, told_of as read_told}
-use Rattle.reader.specs.declared.read.Reading.{Reading}
-use Rattle.reader.specs.declared.read.Reading.TheVariants.{Query, Reset, Normal, Refused}
-use Rattle.reply.specs.Reply.{told_of as status_told}
-use Rattle.reply.specs.declared.Status.TheVariants.{Heard as HeardReply}
+use Rattle.reader.specs.declared.read.Packet.{Packet}
+use Rattle.reader.specs.declared.read.Packet.TheVariants.{Query, Reset, Normal}
+use Rattle.reply.specs.Reply.{told_of as status_told, status}
 use Rattle.perform.specs.declared.settings.Settings.{Settings}
 use Rattle.perform.specs.declared.price.Performed.{Performed}
 use Rattle.judge.specs.Verdict.{Verdict, judge_of, told_of as verdict_told}
@@ -133,18 +133,18 @@ abbrev pub refusing : Calls Sign
 refusing = reading (λ mid b. no 1)
 
 -- a reader that takes what is damaged for a reset, and a query for a reset and a reset for a query
-abbrev pub eagerly : List ℕ → Reading → Reading
-eagerly b Query = Reset
-eagerly b Reset = Query
-eagerly b (Normal id total position len) = Normal id total position len
-eagerly b (Refused n) = when (ltb 8 (length b)) Reset (Refused n)
+abbrev pub eagerly : List ℕ → Result Packet Refusal → Result Packet Refusal
+eagerly b (Ok Query) = Ok Reset
+eagerly b (Ok Reset) = Ok Query
+eagerly b (Ok (Normal id total position len)) = Ok (Normal id total position len)
+eagerly b (Err e) = when (ltb 8 (length b)) (Ok Reset) (Err e)
 
 abbrev pub eager : Calls Sign
 eager = reading (λ mid b. read_told (eagerly b (read_of mid b)))
 
 -- a reader that takes fewer than 7 bytes for a reset
 abbrev pub noisy : Calls Sign
-noisy = reading (λ mid b. when (ltb (length b) 7) (read_told Reset) (ours.read mid b))
+noisy = reading (λ mid b. when (ltb (length b) 7) (read_told (Ok Reset)) (ours.read mid b))
 
 -- a reader that looks for the forbidden MIDs in the packet, and not at the sign's own
 abbrev pub misled : Calls Sign
@@ -174,7 +174,7 @@ abbrev pub rumour : List ℕ
 rumour = 0x81 ∷ 0x7F ∷ 0x08 ∷ 0x40 ∷ 0x52 ∷ 0x46 ∷ 0x00 ∷ 0x20 ∷ []
 
 abbrev pub hearsay : Calls Sign
-hearsay = hearing (λ mid b. when (same_of b rumour) (status_told (HeardReply 0x40 false false)) (ours.hear mid b))
+hearsay = hearing (λ mid b. when (same_of b rumour) (status_told (status 0x40 false false)) (ours.hear mid b))
 
 -- a writer that writes nothing
 abbrev pub idle : Calls Sign
@@ -230,7 +230,7 @@ fixed = receiving (λ s mid b. record { told = (ours.receive s mid b).told; next
 
 -- a sign that starts over whatever comes
 abbrev pub starting_over : Calls Sign
-starting_over = receiving (λ s mid b. stays (reset_of s) (outcome_told ResetHeard))
+starting_over = receiving (λ s mid b. stays (reset_of s) (outcome_told (Ok ResetHeard)))
 
 -- a sign that moves on where it answers no: every refused packet is a reset
 abbrev pub shaken : Calls Sign
@@ -274,17 +274,17 @@ pub record Hoarded : Type 0 where
   pub sign : Sign
   pub older : List ℕ
 
-abbrev pub is_old : Reading → List ℕ → Bool
-is_old Query older = false
-is_old Reset older = false
-is_old (Normal id total position len) older = is_among id older
-is_old (Refused n) older = false
+abbrev pub is_old : Result Packet Refusal → List ℕ → Bool
+is_old (Ok Query) older = false
+is_old (Ok Reset) older = false
+is_old (Ok (Normal id total position len)) older = is_among id older
+is_old (Err e) older = false
 
 abbrev pub hoarding : Calls Hoarded
 hoarding =
     works ours.forecast (λ x. x.sign) (record { sign = ours.power; older = [] })
     (λ x mid b.
-    when (is_old (read_of mid b) x.older) (stays x (outcome_told Repeat))
+    when (is_old (read_of mid b) x.older) (stays x (outcome_told (Ok Repeat)))
     (record {
       told = (ours.receive x.sign mid b).told;
       next = record { sign = (ours.receive x.sign mid b).next; older = ids_of x.sign.completed ++ x.older };
@@ -296,11 +296,11 @@ hoarding =
     (λ x. ours.copy x.sign)
 
 -- a sign that forgets the completed numbers on a query
-abbrev pub on_query : Reading → Heard Sign → Heard Sign
-on_query Query h = recalling (λ d. no_completed) h
-on_query Reset h = h
-on_query (Normal id total position len) h = h
-on_query (Refused n) h = h
+abbrev pub on_query : Result Packet Refusal → Heard Sign → Heard Sign
+on_query (Ok Query) h = recalling (λ d. no_completed) h
+on_query (Ok Reset) h = h
+on_query (Ok (Normal id total position len)) h = h
+on_query (Err e) h = h
 
 abbrev pub distracted : Calls Sign
 distracted = receiving (λ s mid b. on_query (read_of mid b) (ours.receive s mid b))
@@ -310,19 +310,19 @@ abbrev pub others : ℕ → List ℕ → List ℕ
 others id [] = []
 others id (x ∷ xs) = when (eqb id x) xs (x ∷ others id xs)
 
-abbrev pub fronted : Sign → Reading → Heard Sign → Heard Sign
-fronted s (Normal id total position len) h =
+abbrev pub fronted : Sign → Result Packet Refusal → Heard Sign → Heard Sign
+fronted s (Ok (Normal id total position len)) h =
     when (has_of s.completed id) (recalling (λ d. record { count = d.count; ids = id ∷ others id d.ids }) h) h
-fronted s Query h = h
-fronted s Reset h = h
-fronted s (Refused n) h = h
+fronted s (Ok Query) h = h
+fronted s (Ok Reset) h = h
+fronted s (Err e) h = h
 
 abbrev pub flustered : Calls Sign
 flustered = receiving (λ s mid b. fronted s (read_of mid b) (ours.receive s mid b))
 
 -- a sign that takes other data for a packet that it holds as a Repeat
 abbrev pub agrees : Heard Sign → Heard Sign
-agrees h = when (eqb h.told.number 13) (stays h.next (outcome_told Repeat)) h
+agrees h = when (eqb h.told.number 13) (stays h.next (outcome_told (Ok Repeat))) h
 
 abbrev pub agreeable : Calls Sign
 agreeable = receiving (λ s mid b. agrees (ours.receive s mid b))
@@ -334,32 +334,32 @@ deaf =
     (λ s mid b. when (eqb s.run.len 0 and eqb (ours.read mid b).number 5) (ours.receive s (get_or b 0 0) b) (ours.receive s mid b))
 
 -- a sign that refuses a packet out of order, but for one of a completed number
-abbrev pub in_order : Sign → Reading → Heard Sign → Heard Sign
-in_order s (Normal id total position len) h =
+abbrev pub in_order : Sign → Result Packet Refusal → Heard Sign → Heard Sign
+in_order s (Ok (Normal id total position len)) h =
     when (has_of s.completed id or eqb position (when (begins_of (collected_of s) id) 0 (held_of s.slots.lens))) h (stays s (no 13))
-in_order s Query h = h
-in_order s Reset h = h
-in_order s (Refused n) h = h
+in_order s (Ok Query) h = h
+in_order s (Ok Reset) h = h
+in_order s (Err e) h = h
 
 abbrev pub orderly : Calls Sign
 orderly = receiving (λ s mid b. in_order s (read_of mid b) (ours.receive s mid b))
 
 -- a sign that answers all but normal packets with a number of its own, a query and a reset too
-abbrev pub surly_to : Sign → Reading → Heard Sign → Heard Sign
-surly_to s (Normal id total position len) h = h
-surly_to s Query h = stays s (no 99)
-surly_to s Reset h = stays s (no 99)
-surly_to s (Refused n) h = stays s (no 99)
+abbrev pub surly_to : Sign → Result Packet Refusal → Heard Sign → Heard Sign
+surly_to s (Ok (Normal id total position len)) h = h
+surly_to s (Ok Query) h = stays s (no 99)
+surly_to s (Ok Reset) h = stays s (no 99)
+surly_to s (Err e) h = stays s (no 99)
 
 abbrev pub surly : Calls Sign
 surly = receiving (λ s mid b. surly_to s (read_of mid b) (ours.receive s mid b))
 
 -- a Ready sign that takes a query, and whatever is damaged or for another, as a reset
-abbrev pub startled : Sign → Reading → Heard Sign → Heard Sign
-startled s (Normal id total position len) h = h
-startled s Query h = stays (reset_of s) (outcome_told ResetHeard)
-startled s Reset h = h
-startled s (Refused n) h = stays (reset_of s) (outcome_told ResetHeard)
+abbrev pub startled : Sign → Result Packet Refusal → Heard Sign → Heard Sign
+startled s (Ok (Normal id total position len)) h = h
+startled s (Ok Query) h = stays (reset_of s) (outcome_told (Ok ResetHeard))
+startled s (Ok Reset) h = h
+startled s (Err e) h = stays (reset_of s) (outcome_told (Ok ResetHeard))
 
 abbrev pub jumpy : Calls Sign
 jumpy = receiving (λ s mid b. when (eqb s.run.len 0) (startled s (read_of mid b) (ours.receive s mid b)) (ours.receive s mid b))
@@ -368,7 +368,7 @@ jumpy = receiving (λ s mid b. when (eqb s.run.len 0) (startled s (read_of mid b
 abbrev pub frozen : Calls Sign
 frozen =
     works ours.forecast ours.holds ours.power ours.receive (λ s. record { told = answer_told Idle; next = s })
-    (λ s. record { told = outcome_told ResetHeard; next = s })
+    (λ s. record { told = outcome_told (Ok ResetHeard); next = s })
     ours.reply
     ours.copy
 

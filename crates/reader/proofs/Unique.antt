@@ -14,11 +14,14 @@ use Rattle.basis.specs.Rows.{first_of, Rising, Passed}
 use Rattle.basis.proofs.Bytes.{five_front}
 use Rattle.basis.proofs.Choices.{when_false}
 use Rattle.basis.proofs.Rows.{all_passed}
+use Rattle.std.specs.Prelude.{Result, Ok}
+use Rattle.refusal.specs.Refusal.{refused_or}
+use Rattle.refusal.specs.declared.Refusal.{Refusal}
 use Rattle.packet.proofs.Seals.{only_seal}
 use Rattle.packet.specs.Wire.{sealed, fifth_of, front_of, packet_of, query_of, reset_of}
-use Rattle.reader.specs.Read.{lowest_of, read_of, rows_of, field_rows, refused_or, named, wrong_place}
-use Rattle.reader.specs.declared.read.Reading.{Reading}
-use Rattle.reader.specs.declared.read.Reading.TheVariants.{Query, Reset, Normal, Refused}
+use Rattle.reader.specs.Read.{lowest_of, read_of, rows_of, field_rows, named, wrong_place}
+use Rattle.reader.specs.declared.read.Packet.{Packet}
+use Rattle.reader.specs.declared.read.Packet.TheVariants.{Query, Reset, Normal}
 use Rattle.reader.proofs.Guard.{read_past}
 
 -- a frame that numbers 1 to 8 let pass
@@ -81,16 +84,17 @@ rebuilt mid b bytes f =
     only_seal b (length b - 2) bytes size f.ended f.balance ∙ ap sealed (front_is mid b f)
 
 -- an answer that is no refusal was not refused
-answered : (n : ℕ) (a r : Reading) → refused_or n a ≡ r → ((k : ℕ) → r ≡ Refused k → ⊥) → (n ≡ 0) × (a ≡ r)
-answered zero a r e answers = (refl, e)
-answered (suc n) a r e answers = absurd (answers (suc n) (sym e))
+answered : (n : ℕ) (a r : Packet) → ◌≡◌ {A = Result Packet Refusal} (refused_or n a) (Ok r) → (n ≡ 0) × (a ≡ r)
+answered zero a r e = (refl, cc)
+answered (suc n) a r e = let z : ◌≡◌ {A = ℕ} 0 1 = cc in absurd (omega arith)
 
 -- so its MID passed the guard, and its packet the whole table
-pub passed : (mid : ℕ) (b : List ℕ) (r : Reading) → read_of mid b ≡ r → ((k : ℕ) → r ≡ Refused k → ⊥)
+pub passed : (mid : ℕ) (b : List ℕ) (r : Packet) → read_of mid b ≡ Ok r
     → (first_of (rows_of mid b) ≡ 0) × (named (get_or b 3 0) (get_or b 4 0) (length b) ≡ r)
 unfolding lowest_of
-passed mid b r e answers =
-    answered (first_of (rows_of mid b)) (named (get_or b 3 0) (get_or b 4 0) (length b)) r (read_past mid b r e (answers 19)).1 answers
+passed mid b r e =
+    let past = read_past mid b (Ok r) e (λ q. let z : ◌≡◌ {A = ℕ} 0 1 = cc in omega arith) in
+    answered (first_of (rows_of mid b)) (named (get_or b 3 0) (get_or b 4 0) (length b)) r past.1
 
 -- the fields that were named are those of the bytes
 fields_are : (t u : Bool) (id fifth len i n p l : ℕ)
@@ -104,10 +108,10 @@ fields_are false true id fifth len i n p l e = let z : ◌≡◌ {A = ℕ} 0 1 =
 fields_are false false id fifth len i n p l e = let z : ◌≡◌ {A = ℕ} 0 1 = cc in absurd (omega arith)
 
 -- an accepted normal packet is the packet of its fields and its data
-pub normal_only : (mid : ℕ) (b : List ℕ) (id total position len : ℕ) → Bytes b → read_of mid b ≡ Normal id total position len
+pub normal_only : (mid : ℕ) (b : List ℕ) (id total position len : ℕ) → Bytes b → read_of mid b ≡ Ok (Normal id total position len)
     → b ≡ packet_of mid id (fifth_of total position) (take len (drop 5 b))
 normal_only mid b id total position len bytes e =
-    let p = passed mid b (Normal id total position len) e (λ k q. let z : ◌≡◌ {A = ℕ} 0 1 = cc in omega arith) in
+    let p = passed mid b (Normal id total position len) e in
     let f = framed mid b p.0 in
     let w = fields_are (leb (get_or b 3 0) 0x3F) (eqb (get_or b 3 0) 0x40) (get_or b 3 0) (get_or b 4 0) (length b) id total position len p.1 in
     rebuilt mid b bytes f
@@ -117,8 +121,8 @@ normal_only mid b id total position len bytes e =
 
 -- so two of equal fields and data are equal bytes
 pub same_fields : (mid : ℕ) (b b' : List ℕ) (id total position len : ℕ) → Bytes b → Bytes b'
-    → read_of mid b ≡ Normal id total position len
-    → read_of mid b' ≡ Normal id total position len
+    → read_of mid b ≡ Ok (Normal id total position len)
+    → read_of mid b' ≡ Ok (Normal id total position len)
     → take len (drop 5 b) ≡ take len (drop 5 b')
     → b ≡ b'
 same_fields mid b b' id total position len h h' e e' d =
@@ -135,18 +139,17 @@ bare id fifth len special least p =
     (same fifth 0x10 ten, omega (arith, ltb-false 7 len short))
 
 -- what the ID of a query or reset was
-which : (t u : Bool) (id fifth len : ℕ) (r : Reading) → when t (Normal id (fifth / 16) (fifth % 16) (len - 7)) (when u Query Reset) ≡ r
+which : (t u : Bool) (id fifth len : ℕ) (r : Packet) → when t (Normal id (fifth / 16) (fifth % 16) (len - 7)) (when u Query Reset) ≡ r
     → ((i n p l : ℕ) → r ≡ Normal i n p l → ⊥)
     → (t ≡ false) × (when u Query Reset ≡ r)
 which true u id fifth len r e other = absurd (other id (fifth / 16) (fifth % 16) (len - 7) (sym e))
 which false u id fifth len r e other = (refl, e)
 
 -- an accepted packet that is not normal carries its ID alone
-special_only : (mid : ℕ) (b : List ℕ) (r : Reading) → Bytes b → read_of mid b ≡ r → ((k : ℕ) → r ≡ Refused k → ⊥)
-    → ((i n p l : ℕ) → r ≡ Normal i n p l → ⊥)
+special_only : (mid : ℕ) (b : List ℕ) (r : Packet) → Bytes b → read_of mid b ≡ Ok r → ((i n p l : ℕ) → r ≡ Normal i n p l → ⊥)
     → (b ≡ packet_of mid (get_or b 3 0) 0x10 []) × ((get_or b 3 0 ≤ 0x41) × ((leb (get_or b 3 0) 0x3F ≡ false) × (when (eqb (get_or b 3 0) 0x40) Query Reset ≡ r)))
-special_only mid b r bytes e answers other =
-    let p = passed mid b r e answers in
+special_only mid b r bytes e other =
+    let p = passed mid b r e in
     let f = framed mid b p.0 in
     let id = get_or b 3 0 in
     let w = which (leb id 0x3F) (eqb id 0x40) id (get_or b 4 0) (length b) r p.1 other in
@@ -158,20 +161,18 @@ special_only mid b r bytes e answers other =
       (f.known, w),
     )
 
-pub query_only : (mid : ℕ) (b : List ℕ) → Bytes b → read_of mid b ≡ Query → b ≡ query_of mid
+pub query_only : (mid : ℕ) (b : List ℕ) → Bytes b → read_of mid b ≡ Ok Query → b ≡ query_of mid
 query_only mid b bytes e =
-    let s = special_only mid b Query bytes e (λ k q. let z : ◌≡◌ {A = ℕ} 0 1 = cc in omega arith)
-    (λ i n p l q. let z : ◌≡◌ {A = ℕ} 0 1 = cc in omega arith) in
+    let s = special_only mid b Query bytes e (λ i n p l q. let z : ◌≡◌ {A = ℕ} 0 1 = cc in omega arith) in
     s.0 ∙ ap (λ (x : ℕ). packet_of mid x 0x10 []) (go (eqb (get_or b 3 0) 0x40) refl s.1.1.1)
   where
     go : (t : Bool) → eqb (get_or b 3 0) 0x40 ≡ t → when t Query Reset ≡ Query → get_or b 3 0 ≡ 0x40
     go true q w = eqb-true _ _ q
     go false q w = let z : ◌≡◌ {A = ℕ} 0 1 = cc in absurd (omega arith)
 
-pub reset_only : (mid : ℕ) (b : List ℕ) → Bytes b → read_of mid b ≡ Reset → b ≡ reset_of mid
+pub reset_only : (mid : ℕ) (b : List ℕ) → Bytes b → read_of mid b ≡ Ok Reset → b ≡ reset_of mid
 reset_only mid b bytes e =
-    let s = special_only mid b Reset bytes e (λ k q. let z : ◌≡◌ {A = ℕ} 0 1 = cc in omega arith)
-    (λ i n p l q. let z : ◌≡◌ {A = ℕ} 0 1 = cc in omega arith) in
+    let s = special_only mid b Reset bytes e (λ i n p l q. let z : ◌≡◌ {A = ℕ} 0 1 = cc in omega arith) in
     s.0 ∙ ap (λ (x : ℕ). packet_of mid x 0x10 []) (go (eqb (get_or b 3 0) 0x40) refl s.1.0 (leb-false _ _ s.1.1.0) s.1.1.1)
   where
     go : (t : Bool) → eqb (get_or b 3 0) 0x40 ≡ t → get_or b 3 0 ≤ 0x41 → 0x3F < get_or b 3 0 → when t Query Reset ≡ Reset → get_or b 3 0 ≡ 0x41

@@ -1,13 +1,15 @@
 -- Reading a packet (W9): 19 for a forbidden MID (N19), the lowest of N1 to N11 that applies, and the fields of what none
 -- of them refuses (W3 to W6).
-use Rattle.std.specs.Prelude.{ℕ, zero, suc, ◌+◌, ◌-◌, ◌/◌, ◌%◌, ◌≤◌, List, [], ◌∷◌, Bool, true, not, ◌≡◌, length, get_or, eqb, ltb, leb}
+use Rattle.std.specs.Prelude.{ℕ, ◌+◌, ◌-◌, ◌/◌, ◌%◌, ◌≤◌, List, [], ◌∷◌, Bool, true, not, ◌≡◌, length, get_or, eqb, ltb, leb, Result}
 use Rattle.basis.specs.Bytes.{sum}
 use Rattle.basis.specs.Choice.{when, ◌and◌, ◌or◌}
-use Rattle.basis.specs.Told.{Told, yes, no}
+use Rattle.basis.specs.Told.{Told}
 use Rattle.basis.specs.Rows.{Row, ◌if◌, first_of, applies}
+use Rattle.refusal.specs.Refusal.{refused_or, told_by}
+use Rattle.refusal.specs.declared.Refusal.{Refusal}
 use Rattle.packet.specs.Mid.{mid_or}
-use Rattle.reader.specs.declared.read.Reading.{Reading}
-use Rattle.reader.specs.declared.read.Reading.TheVariants.{Query, Reset, Normal, Refused}
+use Rattle.reader.specs.declared.read.Packet.{Packet}
+use Rattle.reader.specs.declared.read.Packet.TheVariants.{Query, Reset, Normal}
 
 -- 40h and 41h are the only IDs above 3Fh that number 8 lets pass
 abbrev pub is_normal : ℕ → Bool
@@ -38,27 +40,21 @@ rows_of mid b =
     ∷ 8 if ltb 0x41 (get_or b 3 0)
     ∷ field_rows (get_or b 3 0) (get_or b 4 0) (length b)
 
--- refused with that number, or answered where it is 0
-abbrev pub refused_or : ℕ → Reading → Reading
-refused_or zero answer = answer
-refused_or (suc n) answer = Refused (suc n)
-
 -- what the ID makes of a packet that nothing refuses
-abbrev pub named : ℕ → ℕ → ℕ → Reading
-named id fifth len =
-    when (is_normal id) (Normal id (fifth / 16) (fifth % 16) (len - 7)) (when (eqb id 0x40) Query Reset)
+abbrev pub named : ℕ → ℕ → ℕ → Packet
+named id fifth len = when (is_normal id) (Normal id (fifth / 16) (fifth % 16) (len - 7)) (when (eqb id 0x40) Query Reset)
 
 -- the answer by the fields alone
-abbrev pub fields_of : ℕ → ℕ → ℕ → Reading
+abbrev pub fields_of : ℕ → ℕ → ℕ → Result Packet Refusal
 fields_of id fifth len = refused_or (first_of (field_rows id fifth len)) (named id fifth len)
 
 -- the lowest number that applies, or the packet's kind and fields: what a sign reads whose MID is not judged
-unfoldable pub lowest_of : ℕ → List ℕ → Reading
+unfoldable pub lowest_of : ℕ → List ℕ → Result Packet Refusal
 lowest_of mid b = refused_or (first_of (rows_of mid b)) (named (get_or b 3 0) (get_or b 4 0) (length b))
 
 -- what a sign reads: 19 for a forbidden MID, a guard that is no row of the table
-unfoldable pub read_of : ℕ → List ℕ → Reading
-read_of mid b = mid_or Refused mid (lowest_of mid b)
+unfoldable pub read_of : ℕ → List ℕ → Result Packet Refusal
+read_of mid b = mid_or mid (lowest_of mid b)
 
 -- a number that applies to these bytes, and no lower one does
 pub record Lowest (mid : ℕ) (b : List ℕ) (k : ℕ) : Type 0 where
@@ -67,8 +63,10 @@ pub record Lowest (mid : ℕ) (b : List ℕ) (k : ℕ) : Type 0 where
 
 -- the answer in the rules' numbers: 1 for a query, 2 for a reset, 3 for a normal packet; then its ID, N, position and
 -- count of data bytes
-abbrev pub told_of : Reading → Told
-told_of Query = yes (1 ∷ 0 ∷ 0 ∷ 0 ∷ 0 ∷ [])
-told_of Reset = yes (2 ∷ 0 ∷ 0 ∷ 0 ∷ 0 ∷ [])
-told_of (Normal id total position len) = yes (3 ∷ id ∷ total ∷ position ∷ len ∷ [])
-told_of (Refused n) = no n
+abbrev pub values_of : Packet → List ℕ
+values_of Query = 1 ∷ 0 ∷ 0 ∷ 0 ∷ 0 ∷ []
+values_of Reset = 2 ∷ 0 ∷ 0 ∷ 0 ∷ 0 ∷ []
+values_of (Normal id total position len) = 3 ∷ id ∷ total ∷ position ∷ len ∷ []
+
+abbrev pub told_of : Result Packet Refusal → Told
+told_of = told_by values_of

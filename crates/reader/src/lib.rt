@@ -1,8 +1,8 @@
 #![tactic(auto)]
 
 // Packets read, over the layout that the crate `packet` writes. No call has a `requires`; it answers for any bytes.
-//   read    a packet's bytes to its fields, or a number        W9, N19, N1 to N11
+//   read    a packet's bytes to its fields, or a refusal      W9, N19, N1 to N11
 // proofs/ReadBack, Unique and Refusals join reading and writing: they are inverse on what they accept.
 mod read;
 
-pub use read::{Reading, read_packet};
+pub use read::{Packet, read_packet};

@@ -13,11 +13,13 @@ use Rattle.basis.specs.Choice.{when, ◌and◌, ◌or◌}
 use Rattle.basis.proofs.Bytes.{five_front}
 use Rattle.basis.proofs.Choices.{when_true, and_true, and_parts}
 use Rattle.basis.proofs.Tests.{tests}
+use Rattle.std.specs.Prelude.{Result, Err}
+use Rattle.refusal.specs.declared.Refusal.{Refusal}
+use Rattle.refusal.specs.declared.Refusal.TheVariants.{ForbiddenMid, NoReply}
 use Rattle.packet.specs.Mid.{is_forbidden, Allowed}
 use Rattle.packet.specs.Wire.{sealed, turned, state_of, aux_of, reply_of}
-use Rattle.reply.specs.Reply.{is_last, is_reply, status_of, heard_from, heard_of}
+use Rattle.reply.specs.Reply.{is_last, is_reply, status_of, heard_from, heard_of, status}
 use Rattle.reply.specs.declared.Status.{Status}
-use Rattle.reply.specs.declared.Status.TheVariants.{Heard, Refused}
 use Rattle.packet.proofs.Guards.{guard_stops, guard_passes, guard_past}
 use Rattle.packet.proofs.Seals.{balanced, only_seal}
 
@@ -33,31 +35,31 @@ unfolding reply_of
 reply_balanced mid last busy sink = balanced (turned mid ∷ 0x7F ∷ 8 ∷ last ∷ state_of busy ∷ aux_of sink ∷ [])
 
 -- the letters say what they stand for
-letters_tell : (last : ℕ) (busy sink : Bool) → is_last last ≡ true → status_of last (state_of busy) (aux_of sink) ≡ Heard last busy sink
+letters_tell : (last : ℕ) (busy sink : Bool) → is_last last ≡ true → status_of last (state_of busy) (aux_of sink) ≡ status last busy sink
 letters_tell last true true known = when_true (is_last last and true) _ _ (and_true _ _ known refl)
 letters_tell last true false known = when_true (is_last last and true) _ _ (and_true _ _ known refl)
 letters_tell last false true known = when_true (is_last last and true) _ _ (and_true _ _ known refl)
 letters_tell last false false known = when_true (is_last last and true) _ _ (and_true _ _ known refl)
 
 -- the guard: a forbidden MID is 19 whatever the bytes are, and of any other the bytes decide
-pub heard_stops : (mid : ℕ) (b : List ℕ) → is_forbidden mid ≡ true → heard_of mid b ≡ Refused 19
+pub heard_stops : (mid : ℕ) (b : List ℕ) → is_forbidden mid ≡ true → heard_of mid b ≡ Err ForbiddenMid
 unfolding heard_of
-heard_stops mid b e = guard_stops Refused mid (heard_from mid b) e
+heard_stops mid b e = guard_stops mid (heard_from mid b) e
 
 pub heard_passes : (mid : ℕ) (b : List ℕ) → Allowed mid → heard_of mid b ≡ heard_from mid b
 unfolding heard_of
-heard_passes mid b e = guard_passes Refused mid (heard_from mid b) e
+heard_passes mid b e = guard_passes mid (heard_from mid b) e
 
 -- what is heard passed it
-pub heard_past : (mid : ℕ) (b : List ℕ) (last : ℕ) (busy sink : Bool) → heard_of mid b ≡ Heard last busy sink
-    → Allowed mid × (heard_from mid b ≡ Heard last busy sink)
+pub heard_past : (mid : ℕ) (b : List ℕ) (last : ℕ) (busy sink : Bool) → heard_of mid b ≡ status last busy sink
+    → Allowed mid × (heard_from mid b ≡ status last busy sink)
 unfolding heard_of
 heard_past mid b last busy sink e =
-    guard_past Refused mid (heard_from mid b) (Heard last busy sink) e (λ q. let z : ◌≡◌ {A = ℕ} 0 1 = cc in omega arith)
+    guard_past mid (heard_from mid b) (status last busy sink) e (λ q. let z : ◌≡◌ {A = ℕ} 0 1 = cc in omega arith)
 
 -- what was written reads back as its fields
 pub reply_reads : (mid last : ℕ) (busy sink : Bool) → Allowed mid → is_last last ≡ true
-    → heard_of mid (reply_of mid last busy sink) ≡ Heard last busy sink
+    → heard_of mid (reply_of mid last busy sink) ≡ status last busy sink
 unfolding reply_of
 reply_reads mid last busy sink allowed known =
     heard_passes mid (reply_of mid last busy sink) allowed
@@ -71,18 +73,20 @@ letter x one other false e q = eqb-true x other (sym (ap (λ (b : Bool). b or eq
 
 -- three bytes that tell something are the letters of what they tell
 told : (t : Bool) (last state aux l : ℕ) (busy sink : Bool)
-    → when t (Heard last (eqb state 0x42) (eqb aux 0x53)) (Refused 35) ≡ Heard l busy sink
+    → when t (status last (eqb state 0x42) (eqb aux 0x53)) (Err NoReply) ≡ status l busy sink
     → (t ≡ true) × ((last ≡ l) × ((eqb state 0x42 ≡ busy) × (eqb aux 0x53 ≡ sink)))
-told true last state aux l busy sink e = (refl, (cc, (cc, cc)))
+told true last state aux l busy sink e =
+    let same : ◌≡◌ {A = Status} (record { last = last; busy = eqb state 0x42; sink = eqb aux 0x53 }) (record { last = l; busy = busy; sink = sink }) = cc in
+    (refl, (ap (λ (s : Status). s.last) same, (ap (λ (s : Status). s.busy) same, ap (λ (s : Status). s.sink) same)))
 told false last state aux l busy sink e = let z : ◌≡◌ {A = ℕ} 0 1 = cc in absurd (omega arith)
 
 -- an accepted reply passed its frame's test
-framed_reply : (t : Bool) (s : Status) (l : ℕ) (busy sink : Bool) → when t s (Refused 35) ≡ Heard l busy sink → (t ≡ true) × (s ≡ Heard l busy sink)
+framed_reply : (t : Bool) (s : Result Status Refusal) (l : ℕ) (busy sink : Bool) → when t s (Err NoReply) ≡ status l busy sink → (t ≡ true) × (s ≡ status l busy sink)
 framed_reply true s l busy sink e = (refl, e)
 framed_reply false s l busy sink e = let z : ◌≡◌ {A = ℕ} 0 1 = cc in absurd (omega arith)
 
 -- an accepted reply is the reply of its fields
-pub reply_only : (mid : ℕ) (b : List ℕ) (last : ℕ) (busy sink : Bool) → Bytes b → heard_of mid b ≡ Heard last busy sink
+pub reply_only : (mid : ℕ) (b : List ℕ) (last : ℕ) (busy sink : Bool) → Bytes b → heard_of mid b ≡ status last busy sink
     → b ≡ reply_of mid last busy sink
 unfolding heard_from reply_of
 reply_only mid b last busy sink bytes e =
@@ -113,7 +117,7 @@ reply_only mid b last busy sink bytes e =
     ∙ ap (λ (x : ℕ). turned mid ∷ 0x7F ∷ 8 ∷ last ∷ state_of busy ∷ x ∷ []) aux)
 
 -- so two of equal fields are equal bytes
-pub same_reply : (mid : ℕ) (b b' : List ℕ) (last : ℕ) (busy sink : Bool) → Bytes b → Bytes b' → heard_of mid b ≡ Heard last busy sink
-    → heard_of mid b' ≡ Heard last busy sink
+pub same_reply : (mid : ℕ) (b b' : List ℕ) (last : ℕ) (busy sink : Bool) → Bytes b → Bytes b' → heard_of mid b ≡ status last busy sink
+    → heard_of mid b' ≡ status last busy sink
     → b ≡ b'
 same_reply mid b b' last busy sink h h' e e' = reply_only mid b last busy sink h e ∙ sym (reply_only mid b' last busy sink h' e')

@@ -8,10 +8,7 @@ ghost use Rattle.reply.specs.Reply.{is_last, is_told};
 pub(crate) fn is_last(id: u8) -> bool
     ensures { result ≡ is_last id }
 {
-    if id <= 0x3f {
-        return true;
-    }
-    id == 0x41
+    id <= 0x3f || id == 0x41
 }
 
 // The MID that a sign answers with.
@@ -39,21 +36,12 @@ pub(crate) fn aux_letter(sink: bool) -> u8
 fn is_either(x: u8, one: u8, other: u8) -> bool
     ensures { result ≡ (eqb x one or eqb x other) }
 {
-    if x == one {
-        return true;
-    }
-    x == other
+    x == one || x == other
 }
 
 // Whether three bytes are a last ID and the two letters.
 pub(crate) fn is_told(last: u8, state: u8, aux: u8) -> bool
     ensures { result ≡ is_told last state aux }
 {
-    if !is_last(last) {
-        return false;
-    }
-    if !is_either(state, b'B', b'R') {
-        return false;
-    }
-    is_either(aux, b'S', b'F')
+    is_last(last) && is_either(state, b'B', b'R') && is_either(aux, b'S', b'F')
 }

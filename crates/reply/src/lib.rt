@@ -13,8 +13,9 @@ pub use hears::read_reply;
 pub use lays::write_reply;
 
 // What the sender hears of a sign: last completed ID, Busy or Ready, AUX sunk or floating.
-#[derive(Clone, Copy)]
-pub enum Status {
-    Heard { last: u8, busy: bool, sink: bool },
-    Refused(u8),
+#[derive(Clone, Copy, Debug, PartialEq, Eq)]
+pub struct Status {
+    pub last: u8,
+    pub busy: bool,
+    pub sink: bool,
 }

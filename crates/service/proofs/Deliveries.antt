@@ -12,6 +12,7 @@ use Rattle.basis.specs.Bytes.{laid}
 use Rattle.basis.specs.Choice.{◌or◌}
 use Rattle.basis.proofs.Choices.{when_true, when_false}
 use Rattle.basis.proofs.Laid.{take_laid, length_laid, laid_over}
+use Rattle.std.specs.Prelude.{Ok}
 use Rattle.packet.specs.Wire.{total_of, part_of, fifth_of, packet_at}
 use Rattle.packet.specs.Mid.{Allowed}
 use Rattle.packet.proofs.Parts.{part_length}
@@ -215,7 +216,7 @@ module _ (s : Sign) (good : Good s) (mid id : ℕ) (body : List ℕ) (allowed : 
       ∙ places k below
 
   stored_next : (k : ℕ) → suc k < total_of body → after_packets s mid id body k ≡ state_at s id body k
-      → answer_to s mid id body k ≡ stays_of (state_at s id body (suc k)) Stored
+      → answer_to s mid id body k ≡ stays_of (state_at s id body (suc k)) (Ok Stored)
   stored_next zero more e = answers zero (omega arith) e ∙ stores s zero (up_to id body 1) more (up id body some most 1 (omega arith))
   stored_next (suc k) more e =
       answers (suc k) (omega arith) e
@@ -227,8 +228,8 @@ module _ (s : Sign) (good : Good s) (mid id : ℕ) (body : List ℕ) (allowed : 
   after (suc k) below = ap (λ (r : Received). r.sign) (stored_next k below (after k (omega arith)))
 
   -- all but the last are Stored, with no body
-  pub delivers_stored : (k : ℕ) → suc k < total_of body → answer_to s mid id body k ≡ stays_of (after_packets s mid id body (suc k)) Stored
-  delivers_stored k more = stored_next k more (after k (omega arith)) ∙ ap (λ (t : Sign). stays_of t Stored) (sym (after (suc k) more))
+  pub delivers_stored : (k : ℕ) → suc k < total_of body → answer_to s mid id body k ≡ stays_of (after_packets s mid id body (suc k)) (Ok Stored)
+  delivers_stored k more = stored_next k more (after k (omega arith)) ∙ ap (λ (t : Sign). stays_of t (Ok Stored)) (sym (after (suc k) more))
 
   -- the last releases that very body
   pub delivers_released : (k : ℕ) → suc k ≡ total_of body → answer_to s mid id body k ≡ release_of s id body

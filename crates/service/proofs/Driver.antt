@@ -9,11 +9,14 @@ use lib.Dec.{eqb, leb}
 use lib.ListN.{get_or, take, drop}
 use borrow.Author.Tests.{ne_eqb, eqb-true, eqb-false}
 use Rattle.basis.specs.Choice.{when, ◌or◌}
+use Rattle.std.specs.Prelude.{Result, Ok, Err}
+use Rattle.refusal.specs.declared.Refusal.TheVariants.{Busy, OtherPacket, Unsound}
+use Rattle.refusal.specs.declared.Refusal.{Refusal}
 use Rattle.completed.specs.Completed.{has_of}
 use Rattle.collect.specs.Slots.{Collection, held_of, begun_of, same_of, stored_of}
 use Rattle.reader.specs.Read.{read_of}
-use Rattle.reader.specs.declared.read.Reading.{Reading}
-use Rattle.reader.specs.declared.read.Reading.TheVariants.{Query as QueryRead, Reset as ResetRead, Normal, Refused as Unread}
+use Rattle.reader.specs.declared.read.Packet.{Packet}
+use Rattle.reader.specs.declared.read.Packet.TheVariants.{Query as QueryRead, Reset as ResetRead, Normal}
 use Rattle.loops.specs.Token.{get}
 use Rattle.course.specs.Steps.{Said, did, idle, at, said_of}
 use Rattle.machine.specs.Step.{frames_of, say_of, step_of as run_step}
@@ -32,7 +35,7 @@ use Rattle.sign.specs.declared.Received.{Received}
 use Rattle.sign.specs.declared.Cleared.{Cleared}
 use Rattle.sign.specs.declared.Stepped.{Stepped}
 use Rattle.hear.specs.declared.Outcome.{Outcome}
-use Rattle.hear.specs.declared.Outcome.TheVariants.{Query, Reset, Repeat, Refused}
+use Rattle.hear.specs.declared.Outcome.TheVariants.{Query, Reset, Repeat}
 use Rattle.machine.specs.declared.Stepped.{Stepped as RunStepped}
 use Rattle.machine.proofs.Keeps.{step_ready, step_busy}
 use Rattle.sign.proofs.Joining.{sound_receives, unsound_receives}
@@ -40,7 +43,7 @@ use Rattle.sign.proofs.Sounds.{sound_parts}
 use Rattle.sign.proofs.Stepping.{sound_steps, unsound_steps}
 
 -- what holds of a record that stays, of one with a packet in its collection, and of a reset, holds of whatever bytes come
-module _ (s : Sign) (P : Received → Type 0) (stays : (o : Outcome) → P (stays_of s o)) (counted : (c : Collection) → P (counted_of s c)) where
+module _ (s : Sign) (P : Received → Type 0) (stays : (o : Result Outcome Refusal) → P (stays_of s o)) (counted : (c : Collection) → P (counted_of s c)) where
   join_any : (id total position : ℕ) (part : List ℕ) → P (join_of s id total position part)
   unfolding join_of
   join_any id total position part =
@@ -50,30 +53,30 @@ module _ (s : Sign) (P : Received → Type 0) (stays : (o : Outcome) → P (stay
     where
       go : (t u v w x y : Bool)
           → P
-          (when t (stays_of s Repeat)
-          (when (not u) (stays_of s (Refused 12))
+          (when t (stays_of s (Ok Repeat))
+          (when (not u) (stays_of s (Err Busy))
           (when v (placed_of s (begun_of id total) position part)
-          (when (not w) (stays_of s (Refused 13)) (when x (placed_of s (collected_of s) position part) (when y (stays_of s Repeat) (stays_of s (Refused 13))))))))
-      go true u v w x y = stays Repeat
-      go false false v w x y = stays (Refused 12)
+          (when (not w) (stays_of s (Err OtherPacket)) (when x (placed_of s (collected_of s) position part) (when y (stays_of s (Ok Repeat)) (stays_of s (Err OtherPacket))))))))
+      go true u v w x y = stays (Ok Repeat)
+      go false false v w x y = stays (Err Busy)
       go false true true w x y = counted (stored_of (begun_of id total) position part)
-      go false true false false x y = stays (Refused 13)
+      go false true false false x y = stays (Err OtherPacket)
       go false true false true true y = counted (stored_of (collected_of s) position part)
-      go false true false true false true = stays Repeat
-      go false true false true false false = stays (Refused 13)
+      go false true false true false true = stays (Ok Repeat)
+      go false true false true false false = stays (Err OtherPacket)
 
-  pub receive_any : P (stays_of (reset_of s) Reset) → (mid : ℕ) (b : List ℕ) → P (receive_of s mid b)
+  pub receive_any : P (stays_of (reset_of s) (Ok Reset)) → (mid : ℕ) (b : List ℕ) → P (receive_of s mid b)
   receive_any reset mid b = go (sound_of s) refl
     where
-      heard : (r : Reading) → P (heard_of s b r)
-      heard QueryRead = stays Query
-      heard ResetRead = reset
-      heard (Normal id total position len) = join_any id total position (take len (drop 5 b))
-      heard (Unread n) = stays (Refused n)
+      heard : (r : Result Packet Refusal) → P (heard_of s b r)
+      heard (Ok QueryRead) = stays (Ok Query)
+      heard (Ok ResetRead) = reset
+      heard (Ok (Normal id total position len)) = join_any id total position (take len (drop 5 b))
+      heard (Err e) = stays (Err e)
 
       go : (t : Bool) → sound_of s ≡ t → P (receive_of s mid b)
       go true e = subst P (sym (sound_receives s mid b e)) (heard (read_of mid b))
-      go false e = subst P (sym (unsound_receives s mid b e)) (stays (Refused 16))
+      go false e = subst P (sym (unsound_receives s mid b e)) (stays (Err Unsound))
 
 moved : {A : Type 0} → true ≡ false → A
 moved e = let z : ◌≡◌ {A = ℕ} 0 1 = cc in absurd (omega arith)
@@ -125,8 +128,8 @@ unfolding join_of stays_of
 busy_join s id total position part busy = go (has_of s.completed id) (eqb s.run.len 0) (ne_eqb s.run.len 0 busy)
   where
     go : (t u : Bool) → u ≡ false
-        → (when t (stays_of s Repeat)
-        (when (not u) (stays_of s (Refused 12))
+        → (when t (stays_of s (Ok Repeat))
+        (when (not u) (stays_of s (Err Busy))
         (when (eqb s.slots.total 0 or not (eqb s.slots.id id)) (placed_of s (begun_of id total) position part) (goes_on s total position part)))
         ).sign
         ≡ s
@@ -134,15 +137,15 @@ busy_join s id total position part busy = go (has_of s.completed id) (eqb s.run.
     go false false e = refl
     go false true e = moved e
 
-pub busy_stays : (s : Sign) (mid : ℕ) (b : List ℕ) → (s.run.len ≡ 0 → ⊥) → (read_of mid b ≡ ResetRead → ⊥) → (receive_of s mid b).sign ≡ s
+pub busy_stays : (s : Sign) (mid : ℕ) (b : List ℕ) → (s.run.len ≡ 0 → ⊥) → (read_of mid b ≡ Ok ResetRead → ⊥) → (receive_of s mid b).sign ≡ s
 unfolding stays_of
 busy_stays s mid b busy other = go (sound_of s) refl
   where
-    heard : (r : Reading) → read_of mid b ≡ r → (heard_of s b r).sign ≡ s
-    heard QueryRead e = refl
-    heard ResetRead e = absurd (other e)
-    heard (Normal id total position len) e = busy_join s id total position (take len (drop 5 b)) busy
-    heard (Unread n) e = refl
+    heard : (r : Result Packet Refusal) → read_of mid b ≡ r → (heard_of s b r).sign ≡ s
+    heard (Ok QueryRead) e = refl
+    heard (Ok ResetRead) e = absurd (other e)
+    heard (Ok (Normal id total position len)) e = busy_join s id total position (take len (drop 5 b)) busy
+    heard (Err x) e = refl
 
     go : (t : Bool) → sound_of s ≡ t → (receive_of s mid b).sign ≡ s
     go true e = ap (λ (r : Received). r.sign) (sound_receives s mid b e) ∙ heard (read_of mid b) refl
@@ -185,13 +188,13 @@ step_still s n h = go (sound_of s) refl
             (sym (ap (λ (x : RunStepped). x.answer) (step_busy s.room s.run run (eqb-false s.run.len 0 q))) ∙ answer)
 
 -- and so does a refused reset
-pub reset_still : (s : Sign) (n : ℕ) → (cleared_of s).outcome ≡ Refused n → (cleared_of s).sign ≡ s
+pub reset_still : (s : Sign) (e : Refusal) → (cleared_of s).outcome ≡ Err e → (cleared_of s).sign ≡ s
 unfolding cleared_of
-reset_still s n h = go (sound_of s) h
+reset_still s e h = go (sound_of s) h
   where
     whether : Bool → Cleared
-    whether t = when t (record { sign = reset_of s; outcome = Reset }) (record { sign = s; outcome = Refused 16 })
+    whether t = when t (record { sign = reset_of s; outcome = Ok Reset }) (record { sign = s; outcome = Err Unsound })
 
-    go : (t : Bool) → (whether t).outcome ≡ Refused n → (whether t).sign ≡ s
-    go false e = refl
-    go true e = let z : ◌≡◌ {A = ℕ} 0 1 = cc in absurd (omega arith)
+    go : (t : Bool) → (whether t).outcome ≡ Err e → (whether t).sign ≡ s
+    go false q = refl
+    go true q = let z : ◌≡◌ {A = ℕ} 0 1 = cc in absurd (omega arith)

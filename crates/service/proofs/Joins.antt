@@ -8,14 +8,17 @@ use lib.ListN.{get_or, take, drop}
 use borrow.Author.Tests.{eq-eqb, ne_eqb, le-leb, lt-leb}
 use Rattle.basis.specs.Choice.{when}
 use Rattle.basis.proofs.Choices.{when_true, when_false}
+use Rattle.std.specs.Prelude.{Result, Ok, Err}
+use Rattle.refusal.specs.declared.Refusal.TheVariants.{Busy, OtherPacket}
+use Rattle.refusal.specs.declared.Refusal.{Refusal}
 use Rattle.reader.specs.Read.{read_of}
-use Rattle.reader.specs.declared.read.Reading.{Reading}
-use Rattle.reader.specs.declared.read.Reading.TheVariants.{Query as QueryRead, Reset as ResetRead, Normal, Refused as Unread}
+use Rattle.reader.specs.declared.read.Packet.{Packet}
+use Rattle.reader.specs.declared.read.Packet.TheVariants.{Query as QueryRead, Reset as ResetRead, Normal}
 use Rattle.completed.specs.Completed.{has_of}
 use Rattle.collect.specs.Slots.{Collection, held_of, same_of, begun_of, stored_of}
 use Rattle.collect.proofs.Equal.{same_equal, equal_same}
 use Rattle.hear.specs.Join.{slot_of, begins_of}
-use Rattle.hear.specs.declared.Outcome.TheVariants.{Query, Reset, Repeat, Refused}
+use Rattle.hear.specs.declared.Outcome.TheVariants.{Query, Reset, Repeat}
 use Rattle.sign.specs.Sound.{collected_of}
 use Rattle.sign.specs.Reset.{reset_of}
 use Rattle.sign.specs.Join.{stays_of, stores_of, released_of, counted_of, goes_on, join_of}
@@ -43,23 +46,23 @@ other_same a b other = go (same_of a b) refl
     go false e = refl
 
 module _ (s : Sign) (good : Good s) (mid : ℕ) (b : List ℕ) where
-  heard : (r : Reading) → read_of mid b ≡ r → receive_of s mid b ≡ heard_of s b r
+  heard : (r : Result Packet Refusal) → read_of mid b ≡ r → receive_of s mid b ≡ heard_of s b r
   heard r read = sound_receives s mid b good.sound ∙ ap (heard_of s b) read
 
-  -- what the reader refuses is refused with its number
-  pub unread : (n : ℕ) → read_of mid b ≡ Unread n → receive_of s mid b ≡ stays_of s (Refused n)
-  unread n read = heard (Unread n) read
+  -- what the reader refuses is refused by the same name
+  pub unread : (e : Refusal) → read_of mid b ≡ Err e → receive_of s mid b ≡ stays_of s (Err e)
+  unread e read = heard (Err e) read
 
   -- a query changes nothing
-  pub queried : read_of mid b ≡ QueryRead → receive_of s mid b ≡ stays_of s Query
-  queried read = heard QueryRead read
+  pub queried : read_of mid b ≡ Ok QueryRead → receive_of s mid b ≡ stays_of s (Ok Query)
+  queried read = heard (Ok QueryRead) read
 
   -- a reset drops collection and body
-  pub cleared : read_of mid b ≡ ResetRead → receive_of s mid b ≡ stays_of (reset_of s) Reset
-  cleared read = heard ResetRead read
+  pub cleared : read_of mid b ≡ Ok ResetRead → receive_of s mid b ≡ stays_of (reset_of s) (Ok Reset)
+  cleared read = heard (Ok ResetRead) read
 
 -- a normal packet that comes to a Ready sign, of an ID that isn't completed
-module _ (s : Sign) (good : Good s) (mid : ℕ) (b : List ℕ) (id total position len : ℕ) (read : read_of mid b ≡ Normal id total position len)
+module _ (s : Sign) (good : Good s) (mid : ℕ) (b : List ℕ) (id total position len : ℕ) (read : read_of mid b ≡ Ok (Normal id total position len))
     (ready : s.run.len ≡ 0)
     (other : has_of s.completed id ≡ false) where
   abbrev part : List ℕ
@@ -68,9 +71,9 @@ module _ (s : Sign) (good : Good s) (mid : ℕ) (b : List ℕ) (id total positio
   taken : receive_of s mid b ≡ when (begins_of (collected_of s) id) (counted_of s (stored_of (begun_of id total) position part)) (goes_on s total position part)
   unfolding join_of
   taken =
-      heard s good mid b (Normal id total position len) read
-      ∙ when_false (has_of s.completed id) (stays_of s Repeat) _ other
-      ∙ when_false (not (eqb s.run.len 0)) (stays_of s (Refused 12)) _ (ap not (eq-eqb s.run.len 0 ready))
+      heard s good mid b (Ok (Normal id total position len)) read
+      ∙ when_false (has_of s.completed id) (stays_of s (Ok Repeat)) _ other
+      ∙ when_false (not (eqb s.run.len 0)) (stays_of s (Err Busy)) _ (ap not (eq-eqb s.run.len 0 ready))
 
   -- another ID than the one collected, or none collected: this packet begins
   pub begins : begins_of (collected_of s) id ≡ true → receive_of s mid b ≡ counted_of s (stored_of (begun_of id total) position (take len (drop 5 b)))
@@ -82,15 +85,15 @@ module _ (s : Sign) (good : Good s) (mid : ℕ) (b : List ℕ) (id total positio
     goes = taken ∙ when_false (begins_of (collected_of s) id) _ _ same
 
     -- same ID, other N: 13
-    pub other_total : (s.slots.total ≡ total → ⊥) → receive_of s mid b ≡ stays_of s (Refused 13)
-    other_total n = goes ∙ when_true (not (eqb s.slots.total total)) (stays_of s (Refused 13)) _ (ap not (ne_eqb s.slots.total total n))
+    pub other_total : (s.slots.total ≡ total → ⊥) → receive_of s mid b ≡ stays_of s (Err OtherPacket)
+    other_total n = goes ∙ when_true (not (eqb s.slots.total total)) (stays_of s (Err OtherPacket)) _ (ap not (ne_eqb s.slots.total total n))
 
     -- the same N
     module _ (one : s.slots.total ≡ total) where
       fits : receive_of s mid b
           ≡ when (eqb (get_or s.slots.lens position 0) 0) (counted_of s (stored_of (collected_of s) position part))
-          (when (same_of (slot_of (collected_of s) position) part) (stays_of s Repeat) (stays_of s (Refused 13)))
-      fits = goes ∙ when_false (not (eqb s.slots.total total)) (stays_of s (Refused 13)) _ (ap not (eq-eqb s.slots.total total one))
+          (when (same_of (slot_of (collected_of s) position) part) (stays_of s (Ok Repeat)) (stays_of s (Err OtherPacket)))
+      fits = goes ∙ when_false (not (eqb s.slots.total total)) (stays_of s (Err OtherPacket)) _ (ap not (eq-eqb s.slots.total total one))
 
       -- at a position that isn't held the packet goes in
       pub goes_in : get_or s.slots.lens position 0 ≡ 0
@@ -98,19 +101,19 @@ module _ (s : Sign) (good : Good s) (mid : ℕ) (b : List ℕ) (id total positio
       goes_in free = fits ∙ when_true (eqb (get_or s.slots.lens position 0) 0) _ _ (eq-eqb (get_or s.slots.lens position 0) 0 free)
 
       held : (get_or s.slots.lens position 0 ≡ 0 → ⊥)
-          → receive_of s mid b ≡ when (same_of (slot_of (collected_of s) position) part) (stays_of s Repeat) (stays_of s (Refused 13))
+          → receive_of s mid b ≡ when (same_of (slot_of (collected_of s) position) part) (stays_of s (Ok Repeat)) (stays_of s (Err OtherPacket))
       held there = fits ∙ when_false (eqb (get_or s.slots.lens position 0) 0) _ _ (ne_eqb (get_or s.slots.lens position 0) 0 there)
 
       -- position already held: equal data gives Repeat
       pub again : (get_or s.slots.lens position 0 ≡ 0 → ⊥) → slot_of (collected_of s) position ≡ take len (drop 5 b)
-          → receive_of s mid b ≡ stays_of s Repeat
+          → receive_of s mid b ≡ stays_of s (Ok Repeat)
       again there equal =
           held there
           ∙ when_true (same_of (slot_of (collected_of s) position) part) _ _ (ap (λ (xs : List ℕ). same_of xs part) equal ∙ equal_same part)
 
       -- position already held: other data gives 13
       pub differs : (get_or s.slots.lens position 0 ≡ 0 → ⊥) → (slot_of (collected_of s) position ≡ take len (drop 5 b) → ⊥)
-          → receive_of s mid b ≡ stays_of s (Refused 13)
+          → receive_of s mid b ≡ stays_of s (Err OtherPacket)
       differs there unequal =
           held there
           ∙ when_false (same_of (slot_of (collected_of s) position) part) _ _ (other_same (slot_of (collected_of s) position) part unequal)

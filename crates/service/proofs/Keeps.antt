@@ -11,9 +11,12 @@ use borrow.Author.Tests.{leb-false, eqb-true, eqb-false}
 use Rattle.basis.specs.Choice.{when, ◌and◌, ◌or◌, within}
 use Rattle.basis.proofs.Choices.{and_parts, when_true}
 use Rattle.basis.proofs.Laid.{length_laid}
+use Rattle.std.specs.Prelude.{Result, Ok, Err}
+use Rattle.refusal.specs.declared.Refusal.TheVariants.{Busy, OtherPacket, Unsound}
+use Rattle.refusal.specs.declared.Refusal.{Refusal}
 use Rattle.reader.specs.Read.{read_of}
-use Rattle.reader.specs.declared.read.Reading.{Reading}
-use Rattle.reader.specs.declared.read.Reading.TheVariants.{Query, Reset, Normal, Refused}
+use Rattle.reader.specs.declared.read.Packet.{Packet}
+use Rattle.reader.specs.declared.read.Packet.TheVariants.{Query, Reset, Normal}
 use Rattle.perform.specs.Settings.{sound_of as settings_sound}
 use Rattle.perform.specs.declared.settings.Settings.{Settings}
 use Rattle.judge.specs.Verdict.{Verdict, judge_of}
@@ -50,7 +53,7 @@ use Rattle.sign.specs.declared.Received.{Received}
 use Rattle.sign.specs.declared.Cleared.{Cleared}
 use Rattle.sign.specs.declared.Stepped.{Stepped}
 use Rattle.hear.specs.declared.Outcome.{Outcome}
-use Rattle.hear.specs.declared.Outcome.TheVariants.{Repeat, Query as Asked, Reset as WasReset, Refused as Denied}
+use Rattle.hear.specs.declared.Outcome.TheVariants.{Repeat, Query as Asked, Reset as WasReset}
 use Rattle.sign.proofs.Sounds.{Parts, sound_parts, parts_sound, ready_collects, busy_collects, ready_collected, busy_nothing}
 use Rattle.sign.proofs.Stepping.{sound_steps}
 use Rattle.hear.proofs.Packets.{normal_read}
@@ -193,7 +196,7 @@ module _ (s : Sign) (g : Good s) (ready : s.run.len ≡ 0) (c : Collection) (pos
       go true e = release_good s c.id (joined_of n.lens n.room) g ready known other
       go false e = stores_good (leb-false c.total (held_of n.lens) e)
 
-stays_good : (s : Sign) (o : Outcome) → Good s → Good (stays_of s o).sign
+stays_good : (s : Sign) (o : Result Outcome Refusal) → Good s → Good (stays_of s o).sign
 unfolding stays_of
 stays_good s o g = g
 
@@ -208,15 +211,15 @@ goes_good s g ready total position part some right =
 
     go : (t u v : Bool) → eqb c.total total ≡ t → eqb (get_or c.lens position 0) 0 ≡ u
         → Good
-        (when (not t) (stays_of s (Denied 13)) (when u (placed_of s c position part) (when v (stays_of s Repeat) (stays_of s (Denied 13))))
+        (when (not t) (stays_of s (Err OtherPacket)) (when u (placed_of s c position part) (when v (stays_of s (Ok Repeat)) (stays_of s (Err OtherPacket))))
         ).sign
-    go false u v e f = stays_good s (Denied 13) g
+    go false u v e f = stays_good s (Err OtherPacket) g
     go true true v e f =
         let k = sound_collecting s.completed c some (ready_collected s g.sound ready) in
         placed_good s g ready c position part g.roomy.lens g.roomy.room k.known k.other
         (goes_open s total position (length part) g.sound ready (eqb-true c.total total e) right (eqb-true (get_or c.lens position 0) 0 f))
-    go true false true e f = stays_good s Repeat g
-    go true false false e f = stays_good s (Denied 13) g
+    go true false true e f = stays_good s (Ok Repeat) g
+    go true false false e f = stays_good s (Err OtherPacket) g
 
 pub join_good : (s : Sign) → Good s → (id total position : ℕ) (part : List ℕ) → id ≤ 0x3F → Right total position (length part)
     → Good (join_of s id total position part).sign
@@ -226,12 +229,12 @@ join_good s g id total position part known right =
   where
     go : (t u v w : Bool) → has_of s.completed id ≡ t → eqb s.run.len 0 ≡ u → eqb s.slots.total 0 ≡ v
         → Good
-        (when t (stays_of s Repeat)
-        (when (not u) (stays_of s (Denied 12))
+        (when t (stays_of s (Ok Repeat))
+        (when (not u) (stays_of s (Err Busy))
         (when (v or not w) (placed_of s (begun_of id total) position part) (goes_on s total position part)))
         ).sign
-    go true u v w e f h = stays_good s Repeat g
-    go false false v w e f h = stays_good s (Denied 12) g
+    go true u v w e f h = stays_good s (Ok Repeat) g
+    go false false v w e f h = stays_good s (Err Busy) g
     go false true true w e f h =
         placed_good s g (eqb-true s.run.len 0 f) (begun_of id total) position part refl refl known e
         (begun_open id total position (length part) right)
@@ -245,11 +248,11 @@ pub receive_good : (s : Sign) (mid : ℕ) (b : List ℕ) → Good s → Good (re
 receive_good s mid b g =
     subst (λ (r : Received). Good r.sign) (sym (sound_receives s mid b g.sound)) (go (read_of mid b) refl)
   where
-    go : (r : Reading) → read_of mid b ≡ r → Good (heard_of s b r).sign
-    go Query e = stays_good s Asked g
-    go Reset e = stays_good (reset_of s) WasReset (reset_good s g)
-    go (Refused n) e = stays_good s (Denied n) g
-    go (Normal id total position len) e =
+    go : (r : Result Packet Refusal) → read_of mid b ≡ r → Good (heard_of s b r).sign
+    go (Ok Query) e = stays_good s (Ok Asked) g
+    go (Ok Reset) e = stays_good (reset_of s) (Ok WasReset) (reset_good s g)
+    go (Err x) e = stays_good s (Err x) g
+    go (Ok (Normal id total position len)) e =
         let w = normal_read mid b id total position len e in
         let size : length (take len (drop 5 b)) ≡ len = length-take-le len (drop 5 b) (omega (arith, length-drop 5 b, w.size)) in
         join_good s g id total position (take len (drop 5 b)) w.known (subst (λ (n : ℕ). Right total position n) (sym size) w.right)
@@ -310,6 +313,6 @@ step_good s g = subst (λ (r : Stepped). Good r.sign) (sym (sound_steps s g.soun
 pub cleared_good : (s : Sign) → Good s → Good (cleared_of s).sign
 unfolding cleared_of
 cleared_good s g =
-    let q : cleared_of s ≡ record { sign = reset_of s; outcome = WasReset } =
-    when_true (sound_of s) (record { sign = reset_of s; outcome = WasReset }) (record { sign = s; outcome = Denied 16 }) g.sound in
+    let q : cleared_of s ≡ record { sign = reset_of s; outcome = Ok WasReset } =
+    when_true (sound_of s) (record { sign = reset_of s; outcome = Ok WasReset }) (record { sign = s; outcome = Err Unsound }) g.sound in
     subst (λ (x : Cleared). Good x.sign) (sym q) (reset_good s g)

@@ -1,5 +1,5 @@
 -- The packets of a body received in order: demand 2, by J9 to J12.
-use Rattle.std.specs.Prelude.{ℕ, zero, suc, ◌<◌, List, ◌≡◌, Bool, true, false, length, take, replicate, Err}
+use Rattle.std.specs.Prelude.{ℕ, zero, suc, ◌<◌, List, ◌≡◌, Bool, true, false, length, take, replicate, Err, Ok}
 use Rattle.packet.specs.Wire.{total_of, packet_at}
 use Rattle.room.specs.Room.{room_of}
 use Rattle.judge.specs.Verdict.{judge_of}
@@ -33,8 +33,8 @@ pub record Awaits (s : Sign) (id : ℕ) : Type 0 where
 
 -- the packets of a body are delivered: all but the last are Stored, with no body; the last is Released, with the same bytes
 pub record Delivered (s : Sign) (mid id : ℕ) (body : List ℕ) : Type 0 where
-  pub stored : (p : ℕ) → suc p < total_of body → answer_to s mid id body p ≡ stays_of (after_packets s mid id body (suc p)) Stored
-  pub released : (p : ℕ) → suc p ≡ total_of body → (answer_to s mid id body p).outcome ≡ Released (judge_of body)
+  pub stored : (p : ℕ) → suc p < total_of body → answer_to s mid id body p ≡ stays_of (after_packets s mid id body (suc p)) (Ok Stored)
+  pub released : (p : ℕ) → suc p ≡ total_of body → (answer_to s mid id body p).outcome ≡ Ok (Released (judge_of body))
   pub same : (p : ℕ) → suc p ≡ total_of body → take (answer_to s mid id body p).len (answer_to s mid id body p).body ≡ body
   -- the ID is then completed, and nothing is collected
   pub completed : (p : ℕ) → suc p ≡ total_of body → (answer_to s mid id body p).sign.completed ≡ added_of s.completed id

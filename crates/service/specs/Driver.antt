@@ -1,33 +1,34 @@
 -- What may happen to a record between power-on and power-off: steps, and bytes off the line, in any order.
 -- The driver's wish: a line that has started runs to its end, once. J4, J5, J8, J13 and N0 say what changes nothing, J10
 -- and J14 what changes the completed IDs.
-use Rattle.std.specs.Prelude.{ℕ, zero, suc, List, [], ◌∷◌, ◌≡◌, Bool, true, false}
+use Rattle.std.specs.Prelude.{ℕ, zero, suc, List, [], ◌∷◌, ◌≡◌, Bool, true, false, Ok, Result, Err}
+use Rattle.refusal.specs.declared.Refusal.{Refusal}
 use Rattle.reader.specs.Read.{read_of}
-use Rattle.reader.specs.declared.read.Reading.TheVariants.{Reset as ResetRead}
+use Rattle.reader.specs.declared.read.Packet.TheVariants.{Reset as ResetRead}
 use Rattle.machine.specs.declared.Answer.{Answer}
 use Rattle.sign.specs.Receive.{receive_of}
 use Rattle.sign.specs.Step.{step_of}
 use Rattle.sign.specs.declared.Sign.{Sign}
 use Rattle.hear.specs.declared.Outcome.{Outcome}
-use Rattle.hear.specs.declared.Outcome.TheVariants.{Query, Reset, Repeat, Stored, Released, Refused}
+use Rattle.hear.specs.declared.Outcome.TheVariants.{Query, Reset, Repeat, Stored, Released}
 
 -- whether an outcome may come with another record: not a query, a repeat or a refusal
-abbrev pub moves_of : Outcome → Bool
-moves_of Query = false
-moves_of Reset = true
-moves_of Repeat = false
-moves_of Stored = true
-moves_of (Released v) = true
-moves_of (Refused n) = false
+abbrev pub moves_of : Result Outcome Refusal → Bool
+moves_of (Ok Query) = false
+moves_of (Ok Reset) = true
+moves_of (Ok Repeat) = false
+moves_of (Ok Stored) = true
+moves_of (Ok (Released v)) = true
+moves_of (Err e) = false
 
 -- whether an outcome may come with other completed IDs: a reset and a release alone
-abbrev pub moves_completed : Outcome → Bool
-moves_completed Query = false
-moves_completed Reset = true
-moves_completed Repeat = false
-moves_completed Stored = false
-moves_completed (Released v) = true
-moves_completed (Refused n) = false
+abbrev pub moves_completed : Result Outcome Refusal → Bool
+moves_completed (Ok Query) = false
+moves_completed (Ok Reset) = true
+moves_completed (Ok Repeat) = false
+moves_completed (Ok Stored) = false
+moves_completed (Ok (Released v)) = true
+moves_completed (Err e) = false
 
 -- a step, or bytes
 pub data Event : Type 0 where
@@ -64,10 +65,10 @@ steps_in (bytes b ∷ es) = steps_in es
 abbrev pub Undisturbed : ℕ → List Event → Sign → Type 0
 Undisturbed mid [] s = Unit
 Undisturbed mid (step ∷ es) s = Undisturbed mid es (step_of s).sign
-Undisturbed mid (bytes b ∷ es) s = (s.run.len ≡ 0 → ⊥) × ((read_of mid b ≡ ResetRead → ⊥) × Undisturbed mid es s)
+Undisturbed mid (bytes b ∷ es) s = (s.run.len ≡ 0 → ⊥) × ((read_of mid b ≡ Ok ResetRead → ⊥) × Undisturbed mid es s)
 
 -- none of the bytes among the events are a reset for this MID
 abbrev pub Quiet : ℕ → List Event → Type 0
 Quiet mid [] = Unit
 Quiet mid (step ∷ es) = Quiet mid es
-Quiet mid (bytes b ∷ es) = (read_of mid b ≡ ResetRead → ⊥) × Quiet mid es
+Quiet mid (bytes b ∷ es) = (read_of mid b ≡ Ok ResetRead → ⊥) × Quiet mid es

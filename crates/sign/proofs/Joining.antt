@@ -7,19 +7,22 @@ use lib.Dec.{eqb, leb}
 use lib.ListN.{get_or, take, drop}
 use Rattle.basis.specs.Choice.{when, ◌and◌}
 use Rattle.basis.proofs.Choices.{when_true, when_false}
+use Rattle.std.specs.Prelude.{Result, Ok, Err}
+use Rattle.refusal.specs.declared.Refusal.TheVariants.{Busy, OtherPacket, Unsound, ForbiddenMid}
+use Rattle.refusal.specs.declared.Refusal.{Refusal}
 use Rattle.completed.specs.Completed.{has_of}
 use Rattle.collect.specs.Slots.{Collection, held_of, same_of, begun_of, stored_of}
 use Rattle.collect.proofs.Sounds.{sound_slots}
 use Rattle.packet.specs.Mid.{is_forbidden}
 use Rattle.reader.specs.Read.{read_of}
 use Rattle.reader.proofs.Guard.{read_stops}
-use Rattle.reader.specs.declared.read.Reading.{Reading}
-use Rattle.reader.specs.declared.read.Reading.TheVariants.{Query as QueryRead, Reset as ResetRead, Normal, Refused as Unread}
+use Rattle.reader.specs.declared.read.Packet.{Packet}
+use Rattle.reader.specs.declared.read.Packet.TheVariants.{Query as QueryRead, Reset as ResetRead, Normal}
 use Rattle.machine.specs.Sound.{sound_of as run_sound}
 use Rattle.hear.specs.Hear.{heard_of as heard_by, hear_of}
 use Rattle.hear.specs.Join.{Left, slot_of, begins_of, join_by, stay_of, whole_of, count_of, Right, Open}
 use Rattle.hear.specs.declared.Outcome.{Outcome}
-use Rattle.hear.specs.declared.Outcome.TheVariants.{Repeat, Stored, Refused}
+use Rattle.hear.specs.declared.Outcome.TheVariants.{Repeat, Stored}
 use Rattle.hear.proofs.Joining.{into_open}
 use Rattle.hear.proofs.Hears.{framed_hears, unframed_hears}
 use Rattle.sign.specs.Sound.{collected_of, framed_of, sound_of}
@@ -39,14 +42,14 @@ goes_open s total position len e ready =
 -- bytes that come to a sound record are judged by what is read of them
 pub sound_receives : (s : Sign) (mid : ℕ) (b : List ℕ) → sound_of s ≡ true → receive_of s mid b ≡ heard_of s b (read_of mid b)
 unfolding receive_of
-sound_receives s mid b e = when_true (sound_of s) (heard_of s b (read_of mid b)) (stays_of s (Refused 16)) e
+sound_receives s mid b e = when_true (sound_of s) (heard_of s b (read_of mid b)) (stays_of s (Err Unsound)) e
 
-pub unsound_receives : (s : Sign) (mid : ℕ) (b : List ℕ) → sound_of s ≡ false → receive_of s mid b ≡ stays_of s (Refused 16)
+pub unsound_receives : (s : Sign) (mid : ℕ) (b : List ℕ) → sound_of s ≡ false → receive_of s mid b ≡ stays_of s (Err Unsound)
 unfolding receive_of
-unsound_receives s mid b e = when_false (sound_of s) (heard_of s b (read_of mid b)) (stays_of s (Refused 16)) e
+unsound_receives s mid b e = when_false (sound_of s) (heard_of s b (read_of mid b)) (stays_of s (Err Unsound)) e
 
 -- and to a sign of a forbidden MID they are 19, whatever they are
-pub forbidden_receives : (s : Sign) (mid : ℕ) (b : List ℕ) → sound_of s ≡ true → is_forbidden mid ≡ true → receive_of s mid b ≡ stays_of s (Refused 19)
+pub forbidden_receives : (s : Sign) (mid : ℕ) (b : List ℕ) → sound_of s ≡ true → is_forbidden mid ≡ true → receive_of s mid b ≡ stays_of s (Err ForbiddenMid)
 forbidden_receives s mid b sound e = sound_receives s mid b sound ∙ ap (heard_of s b) (read_stops mid b e)
 
 -- the record after what was heard
@@ -54,14 +57,14 @@ module _ (s : Sign) where
   abbrev pub after : Left → Received
   after l = behind_of l.outcome (sign_of l.completed l.collection s.run) l.len
 
-  abbrev stay : Outcome → Left
+  abbrev stay : Result Outcome Refusal → Left
   stay o = stay_of s.completed (collected_of s) o
 
   after_count : (c : Collection) → after (count_of s.completed c) ≡ counted_of s c
   unfolding release_of begun_of
   after_count c = go (leb c.total (held_of c.lens))
     where
-      go : (t : Bool) → after (when t (whole_of s.completed c) (stay_of s.completed c Stored)) ≡ when t (released_of s c) (stores_of s c)
+      go : (t : Bool) → after (when t (whole_of s.completed c) (stay_of s.completed c (Ok Stored))) ≡ when t (released_of s c) (stores_of s c)
       go true = refl
       go false = refl
 
@@ -76,16 +79,16 @@ module _ (s : Sign) where
 
       go : (t u v w x y : Bool)
           → after
-          (when t (stay Repeat)
-          (when (not u) (stay (Refused 12))
+          (when t (stay (Ok Repeat))
+          (when (not u) (stay (Err Busy))
           (when v (count_of s.completed (stored_of (begun_of id total) position part))
-          (when (not w) (stay (Refused 13))
-          (when x (count_of s.completed (stored_of c position part)) (when y (stay Repeat) (stay (Refused 13))))))))
-          ≡ when t (stays_of s Repeat)
-          (when (not u) (stays_of s (Refused 12))
+          (when (not w) (stay (Err OtherPacket))
+          (when x (count_of s.completed (stored_of c position part)) (when y (stay (Ok Repeat)) (stay (Err OtherPacket))))))))
+          ≡ when t (stays_of s (Ok Repeat))
+          (when (not u) (stays_of s (Err Busy))
           (when v (counted_of s (stored_of (begun_of id total) position part))
-          (when (not w) (stays_of s (Refused 13))
-          (when x (counted_of s (stored_of c position part)) (when y (stays_of s Repeat) (stays_of s (Refused 13)))))))
+          (when (not w) (stays_of s (Err OtherPacket))
+          (when x (counted_of s (stored_of c position part)) (when y (stays_of s (Ok Repeat)) (stays_of s (Err OtherPacket)))))))
       go true u v w x y = refl
       go false false v w x y = refl
       go false true true w x y = after_count (stored_of (begun_of id total) position part)
@@ -94,12 +97,12 @@ module _ (s : Sign) where
       go false true false true false true = refl
       go false true false true false false = refl
 
-  after_read : (b : List ℕ) (x : Reading) → after (heard_by s.completed (collected_of s) s.run.len b x) ≡ heard_of s b x
+  after_read : (b : List ℕ) (x : Result Packet Refusal) → after (heard_by s.completed (collected_of s) s.run.len b x) ≡ heard_of s b x
   unfolding fresh_of
-  after_read b QueryRead = refl
-  after_read b ResetRead = refl
-  after_read b (Normal id total position len) = after_join id total position (take len (drop 5 b))
-  after_read b (Unread n) = refl
+  after_read b (Ok QueryRead) = refl
+  after_read b (Ok ResetRead) = refl
+  after_read b (Ok (Normal id total position len)) = after_join id total position (take len (drop 5 b))
+  after_read b (Err e) = refl
 
 -- a record whose run is sound receives what is heard of the rest of it
 pub received_is : (s : Sign) (mid : ℕ) (b : List ℕ) (l : Left) (r : Received) → run_sound s.room s.run ≡ true
@@ -124,7 +127,7 @@ received_is s mid b l r run el er = er ∙ ap (after s) el ∙ go (framed_of s) 
         ap (after s) (unframed_hears s.completed (collected_of s) s.run.len mid b e) ∙ sym (unsound_receives s mid b (sound ∙ e))
 
 -- a record whose run is not sound receives nothing
-pub unsound_run : (s : Sign) (mid : ℕ) (b : List ℕ) → run_sound s.room s.run ≡ false → receive_of s mid b ≡ stays_of s (Refused 16)
+pub unsound_run : (s : Sign) (mid : ℕ) (b : List ℕ) → run_sound s.room s.run ≡ false → receive_of s mid b ≡ stays_of s (Err Unsound)
 unsound_run s mid b e = unsound_receives s mid b (sound_framed s ∙ ap (λ (t : Bool). framed_of s and t) e ∙ none (framed_of s))
   where
     none : (t : Bool) → t and false ≡ false

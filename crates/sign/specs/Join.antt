@@ -1,6 +1,7 @@
 -- A normal packet that passed the reader, judged and joined: J4 to J12. The order is `hear`'s, and here are the records
 -- after it.
-use Rattle.std.specs.Prelude.{ℕ, List, length, replicate, Ok, Err}
+use Rattle.std.specs.Prelude.{ℕ, List, length, replicate, Ok, Err, Result}
+use Rattle.refusal.specs.declared.Refusal.{Refusal}
 use Rattle.room.specs.Room.{room_of}
 use Rattle.judge.specs.Verdict.{Verdict, judge_of}
 use Rattle.completed.specs.Completed.{added_of}
@@ -20,7 +21,7 @@ abbrev pub sign_of : Completed → Collection → Run → Sign
 sign_of completed c run = record { completed = completed; slots = slots_in c; room = c.room; run = run }
 
 -- nothing changes, and no body comes with the answer
-unfoldable pub stays_of : Sign → Outcome → Received
+unfoldable pub stays_of : Sign → Result Outcome Refusal → Received
 stays_of s outcome = record { sign = s; outcome = outcome; body = replicate 84 0; len = 0 }
 
 -- an accepted body runs; with another the sign stays Ready
@@ -30,14 +31,14 @@ starts_of (Err w) runs rests = rests
 
 -- Stored: the collection with the packet in it
 abbrev pub stores_of : Sign → Collection → Received
-stores_of s c = stays_of (sign_of s.completed c s.run) Stored
+stores_of s c = stays_of (sign_of s.completed c s.run) (Ok Stored)
 
 -- Released: the body comes with the answer, nothing is being collected, the ID is completed
 unfoldable pub release_of : Sign → ℕ → List ℕ → Received
 release_of s id body =
     record {
       sign = starts_of (judge_of body) (sign_of (added_of s.completed id) (body_in body) (started_of (length body) s.run.settings)) (sign_of (added_of s.completed id) none_of s.run);
-      outcome = Released (judge_of body);
+      outcome = Ok (Released (judge_of body));
       body = room_of body;
       len = length body;
     }

@@ -1,6 +1,7 @@
 -- Power-on (J15) and reset (J14); the call that resets refuses an unsound record (N16).
-use Rattle.std.specs.Prelude.{ℕ}
+use Rattle.std.specs.Prelude.{ℕ, Ok, Err}
 use Rattle.basis.specs.Choice.{when}
+use Rattle.refusal.specs.declared.Refusal.TheVariants.{Unsound}
 use Rattle.perform.specs.declared.settings.Settings.{Settings}
 use Rattle.completed.specs.Completed.{none_of as no_completed}
 use Rattle.collect.specs.Slots.{none_of}
@@ -9,7 +10,7 @@ use Rattle.sign.specs.Join.{sign_of}
 use Rattle.sign.specs.Sound.{sound_of}
 use Rattle.sign.specs.declared.Sign.{Sign}
 use Rattle.sign.specs.declared.Cleared.{Cleared}
-use Rattle.hear.specs.declared.Outcome.TheVariants.{Reset, Refused}
+use Rattle.hear.specs.declared.Outcome.TheVariants.{Reset}
 
 -- pace 4, one scan, AUX floating
 abbrev pub start_settings : ℕ → ℕ → Settings
@@ -28,4 +29,4 @@ power_on = fresh_of 16 0
 
 -- the call: 16, or the reset
 unfoldable pub cleared_of : Sign → Cleared
-cleared_of s = when (sound_of s) (record { sign = reset_of s; outcome = Reset }) (record { sign = s; outcome = Refused 16 })
+cleared_of s = when (sound_of s) (record { sign = reset_of s; outcome = Ok Reset }) (record { sign = s; outcome = Err Unsound })

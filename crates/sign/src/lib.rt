@@ -17,6 +17,7 @@ use collect::Slots;
 use completed::Completed;
 use hear::Outcome;
 use machine::{Answer, Run};
+use refusal::Refusal;
 
 // The record: completed IDs, the slots of the packets being collected, one room, and the running program with the settings. The
 // room holds the packets' data while Ready and the running body while Busy: Busy collects nothing, and Ready has no body.
@@ -32,7 +33,7 @@ pub struct Sign {
 #[derive(Clone, Copy)]
 pub struct Received {
     pub sign: Sign,
-    pub outcome: Outcome,
+    pub outcome: Result<Outcome, Refusal>,
     pub body: [u8; 84],
     pub len: usize,
 }
@@ -41,7 +42,7 @@ pub struct Received {
 #[derive(Clone, Copy)]
 pub struct Cleared {
     pub sign: Sign,
-    pub outcome: Outcome,
+    pub outcome: Result<Outcome, Refusal>,
 }
 
 // The record after a step, and the step's answer.

@@ -11,6 +11,7 @@ use hear::{Outcome, hear};
 use judge::Verdict;
 use machine::{Loop, Run};
 use perform::Settings;
+use refusal::Refusal;
 
 // A run of a body of this length from its first command.
 fn start(len: usize, settings: Settings) -> Run
@@ -26,7 +27,7 @@ fn start(len: usize, settings: Settings) -> Run
 
 impl Sign {
     // The record stays, and no body comes with the answer.
-    fn stays(self, outcome: Outcome) -> Received
+    fn stays(self, outcome: Result<Outcome, Refusal>) -> Received
         ensures { result ≡ stays_of self outcome }
     {
         Received {
@@ -68,21 +69,21 @@ impl Sign {
     }
 
     // The record after an outcome, where hearing left all but the run as it stands here, and a released body's length.
-    fn after(self, outcome: Outcome, len: usize) -> Received
+    fn after(self, outcome: Result<Outcome, Refusal>, len: usize) -> Received
         ensures { result ≡ behind_of outcome self len }
     {
         match outcome {
-            Outcome::Query => self.stays(outcome),
-            Outcome::Reset => {
+            Ok(Outcome::Query) => self.stays(outcome),
+            Ok(Outcome::Reset) => {
                 let settings = self.run.settings;
                 let run = rested(settings.dim, settings.bright);
                 let mut next = self;
                 next.run = run;
                 next.stays(outcome)
             }
-            Outcome::Repeat => self.stays(outcome),
-            Outcome::Stored => self.stays(outcome),
-            Outcome::Released(verdict) => {
+            Ok(Outcome::Repeat) => self.stays(outcome),
+            Ok(Outcome::Stored) => self.stays(outcome),
+            Ok(Outcome::Released(verdict)) => {
                 let body = self.room;
                 Received {
                     sign: self.starts(verdict, len),
@@ -91,7 +92,7 @@ impl Sign {
                     len,
                 }
             }
-            Outcome::Refused(_) => self.stays(outcome),
+            Err(_) => self.stays(outcome),
         }
     }
 
@@ -104,7 +105,7 @@ impl Sign {
         let run = self.run;
         let mut room = self.room;
         if !run.sound(&room) {
-            return self.stays(Outcome::Refused(16));
+            return self.stays(Err(Refusal::Unsound));
         }
         let heard = hear(completed, slots, self.run.len, &mut room, mid, bytes);
         let outcome = heard.outcome;

@@ -9,6 +9,7 @@ use completed::none;
 use hear::Outcome;
 use machine::{Loop, Run};
 use perform::Settings;
+use refusal::Refusal;
 
 // A run that is Ready with the settings of a reset, where threshold and brightness are these.
 pub(crate) fn rested(dim: u8, bright: u8) -> Run
@@ -59,13 +60,13 @@ impl Sign {
         if !self.sound() {
             return Cleared {
                 sign: self,
-                outcome: Outcome::Refused(16),
+                outcome: Err(Refusal::Unsound),
             };
         }
         let settings = self.run.settings;
         Cleared {
             sign: fresh(settings.dim, settings.bright),
-            outcome: Outcome::Reset,
+            outcome: Ok(Outcome::Reset),
         }
     }
 }

@@ -15,10 +15,12 @@ use Rattle.basis.specs.Bytes.{laid}
 use Rattle.basis.specs.Told.{Told, flag_of}
 use Rattle.basis.proofs.Choices.{when_true, when_false}
 use Rattle.basis.proofs.Laid.{laid_lent, laid_copied, length_laid, take_laid, laid_over}
+use Rattle.std.specs.Prelude.{Result, Ok, Err}
+use Rattle.refusal.specs.declared.Refusal.{Refusal}
 use Rattle.words.specs.Words.{word_of, words_of, result_of}
 use Rattle.hear.specs.Hear.{told_of}
 use Rattle.hear.specs.declared.Outcome.{Outcome}
-use Rattle.hear.specs.declared.Outcome.TheVariants.{Query, Reset, Repeat, Stored, Released, Refused}
+use Rattle.hear.specs.declared.Outcome.TheVariants.{Query, Reset, Repeat, Stored, Released}
 use Rattle.words.specs.Told.{answer_row, first_or, told_in}
 use Rattle.words.specs.Says.{outcome_of, program_of, place_of, received_bytes}
 
@@ -108,16 +110,16 @@ pub row_past : (size : ℕ) (answer : List ℕ) (n : ℕ) → size ≤ length an
 row_past size answer n room = sym (when_false (ltb (length answer) size) 252 n (le-ltb (length answer) size room))
 
 -- an outcome that is told something is no refusal
-pub told_yes : (o : Outcome) → (outcome_of o ≡ 0 → ⊥) → (told_of o).number ≡ 0
-told_yes Query h = refl
-told_yes Reset h = refl
-told_yes Repeat h = refl
-told_yes Stored h = refl
-told_yes (Released v) h = refl
-told_yes (Refused n) h = absurd (h refl)
+pub told_yes : (o : Result Outcome Refusal) → (outcome_of o ≡ 0 → ⊥) → (told_of o).number ≡ 0
+told_yes (Ok Query) h = refl
+told_yes (Ok Reset) h = refl
+told_yes (Ok Repeat) h = refl
+told_yes (Ok Stored) h = refl
+told_yes (Ok (Released v)) h = refl
+told_yes (Err e) h = absurd (h refl)
 
 -- four words, and a body copied after them
-pub received_lays : (o : Outcome) (body : List ℕ) (len : ℕ) (answer f y : List ℕ) (p q r : ℕ) → 100 ≤ length answer → p ≡ outcome_of o → (p ≡ 0 → ⊥)
+pub received_lays : (o : Result Outcome Refusal) (body : List ℕ) (len : ℕ) (answer f y : List ℕ) (p q r : ℕ) → 100 ≤ length answer → p ≡ outcome_of o → (p ≡ 0 → ⊥)
     → q ≡ program_of o
     → r ≡ place_of o
     → f ≡ told_in 16 (words_of (p ∷ q ∷ r ∷ len ∷ [])) answer
@@ -144,7 +146,7 @@ received_lays o body len answer f y p q r room ep yes' eq er ef size ey =
     ∙ told_room 100 (received_bytes o body len) answer room
 
 -- nothing, where it is refused
-pub refused_lays : (o : Outcome) (body : List ℕ) (len : ℕ) (answer : List ℕ) → 100 ≤ length answer → outcome_of o ≡ 0
+pub refused_lays : (o : Result Outcome Refusal) (body : List ℕ) (len : ℕ) (answer : List ℕ) → 100 ≤ length answer → outcome_of o ≡ 0
     → answer ≡ told_in 100 (received_bytes o body len) answer
 refused_lays o body len answer room none =
     told_none 100 answer room

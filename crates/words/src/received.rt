@@ -6,71 +6,59 @@ ghost use Rattle.words.specs.Says.{outcome_of, program_of, place_of, received_by
 
 use crate::laying::lay;
 use hear::Outcome;
+use refusal::Refusal;
 
 // The outcome of a receive as a number; 0 where it is refused.
-fn outcome_code(outcome: Outcome) -> u64
+fn outcome_code(outcome: Result<Outcome, Refusal>) -> u64
     ensures { result ≡ outcome_of outcome }
 {
     match outcome {
-        Outcome::Query => 1,
-        Outcome::Reset => 2,
-        Outcome::Repeat => 3,
-        Outcome::Stored => 4,
-        Outcome::Released(_) => 5,
-        Outcome::Refused(_) => 0,
+        Ok(Outcome::Query) => 1,
+        Ok(Outcome::Reset) => 2,
+        Ok(Outcome::Repeat) => 3,
+        Ok(Outcome::Stored) => 4,
+        Ok(Outcome::Released(_)) => 5,
+        Err(_) => 0,
     }
 }
 
 // The number for no of a released body's program; 0 where it is accepted or none was released.
-fn program_no(outcome: Outcome) -> u64
+fn program_no(outcome: Result<Outcome, Refusal>) -> u64
     ensures { result ≡ program_of outcome }
 {
     match outcome {
-        Outcome::Query => 0,
-        Outcome::Reset => 0,
-        Outcome::Repeat => 0,
-        Outcome::Stored => 0,
-        Outcome::Released(verdict) => match verdict {
-            Ok(_) => 0,
-            Err(fault) => fault.refusal.number() as u64,
-        },
-        Outcome::Refused(_) => 0,
+        Ok(Outcome::Released(Err(fault))) => fault.refusal.number() as u64,
+        _ => 0,
     }
 }
 
 // The place of that refusal.
-fn program_at(outcome: Outcome) -> u64
+fn program_at(outcome: Result<Outcome, Refusal>) -> u64
     ensures { result ≡ place_of outcome }
 {
     match outcome {
-        Outcome::Query => 0,
-        Outcome::Reset => 0,
-        Outcome::Repeat => 0,
-        Outcome::Stored => 0,
-        Outcome::Released(verdict) => match verdict {
-            Ok(_) => 0,
-            Err(fault) => fault.place as u64,
-        },
-        Outcome::Refused(_) => 0,
+        Ok(Outcome::Released(Err(fault))) => fault.place as u64,
+        _ => 0,
     }
 }
 
 // The number for no of an outcome, 0 for yes.
-pub fn tell_outcome(outcome: Outcome) -> u32
+pub fn tell_outcome(outcome: Result<Outcome, Refusal>) -> u32
     ensures { result ≡ (told_of outcome).number }
 {
     match outcome {
-        Outcome::Query => 0,
-        Outcome::Reset => 0,
-        Outcome::Repeat => 0,
-        Outcome::Stored => 0,
-        Outcome::Released(_) => 0,
-        Outcome::Refused(n) => n as u32,
+        Ok(_) => 0,
+        Err(e) => e.number() as u32,
     }
 }
 
 // What a sign made of the bytes that came: four words, and the body after them.
-pub fn tell_received(outcome: Outcome, body: &[u8; 84], len: usize, answer: &mut [u8]) -> u32
+pub fn tell_received(
+    outcome: Result<Outcome, Refusal>,
+    body: &[u8; 84],
+    len: usize,
+    answer: &mut [u8],
+) -> u32
     ensures result { result ≡ first_or (answer_row 100 answer.old ∷ []) (told_of outcome).number }
     ensures told { answer.new ≡ told_in 100 (received_bytes outcome body.now len) answer.old }
 {

@@ -6,11 +6,12 @@ ghost use Rattle.words.specs.Words.{words_of};
 ghost use Rattle.words.specs.Told.{answer_row, first_or, told_in};
 
 use crate::laying::lay;
-use reader::Reading;
+use reader::Packet;
+use refusal::Refusal;
 use reply::Status;
 
 // What bytes off the line are: five words.
-pub fn tell_reading(reading: Reading, answer: &mut [u8]) -> u32
+pub fn tell_reading(reading: Result<Packet, Refusal>, answer: &mut [u8]) -> u32
     ensures result { result ≡ first_or (answer_row 20 answer.old ∷ []) (told_of reading).number }
     ensures told { answer.new ≡ told_in 20 (words_of (told_of reading).values) answer.old }
 {
@@ -18,32 +19,34 @@ pub fn tell_reading(reading: Reading, answer: &mut [u8]) -> u32
         return 252;
     }
     match reading {
-        Reading::Query => {
+        Ok(Packet::Query) => {
             lay(&[1, 0, 0, 0, 0], answer);
             0
         }
-        Reading::Reset => {
+        Ok(Packet::Reset) => {
             lay(&[2, 0, 0, 0, 0], answer);
             0
         }
-        Reading::Normal {
-            id,
-            total,
-            position,
-            len,
-        } => {
+        Ok(
+            Packet::Normal {
+                id,
+                total,
+                position,
+                len,
+            },
+        ) => {
             lay(
                 &[3, id as u64, total as u64, position as u64, len as u64],
                 answer,
             );
             0
         }
-        Reading::Refused(n) => n as u32,
+        Err(e) => e.number() as u32,
     }
 }
 
 // What a reply tells: three words.
-pub fn tell_status(status: Status, answer: &mut [u8]) -> u32
+pub fn tell_status(status: Result<Status, Refusal>, answer: &mut [u8]) -> u32
     ensures result { result ≡ first_or (answer_row 12 answer.old ∷ []) (status_told status).number }
     ensures told { answer.new ≡ told_in 12 (words_of (status_told status).values) answer.old }
 {
@@ -51,10 +54,10 @@ pub fn tell_status(status: Status, answer: &mut [u8]) -> u32
         return 252;
     }
     match status {
-        Status::Heard { last, busy, sink } => {
+        Ok(Status { last, busy, sink }) => {
             lay(&[last as u64, busy as u64, sink as u64], answer);
             0
         }
-        Status::Refused(n) => n as u32,
+        Err(e) => e.number() as u32,
     }
 }

@@ -11,6 +11,7 @@ use Rattle.collect.specs.declared.Slots.{Slots}
 use Rattle.hear.specs.declared.Outcome.TheVariants.{Released}
 use Rattle.hear.proofs.Places.{whole_len, whole_size, whole_room, whole_body, whole_left}
 use borrow.Author.Rules.{rules}
+use Rattle.std.specs.Prelude.{Ok}
 use Rattle.hear.proofs.join.released.Goals as goal
 
 pub overflow_add-len : goal.overflow_add-len
@@ -35,6 +36,6 @@ returns c =
     let w = c.requires.0 in
     let n = 14 * (a.slots.total - 1) + get_or a.slots.lens (a.slots.total - 1) 0 in
     let v = c.judge-verdict.result in
-    ap (λ (s : Slots). record { outcome = Released v; completed = c.with.result; collection = collection_of s a.room.now; len = n }) c.begun.ensures
-    ∙ ap (λ (d : Completed). record { outcome = Released v; completed = d; collection = record { id = 0; total = 0; lens = replicate 6 0; room = a.room.now }; len = n }) c.with.ensures
+    ap (λ (s : Slots). record { outcome = Ok (Released v); completed = c.with.result; collection = collection_of s a.room.now; len = n }) c.begun.ensures
+    ∙ ap (λ (d : Completed). record { outcome = Ok (Released v); completed = d; collection = record { id = 0; total = 0; lens = replicate 6 0; room = a.room.now }; len = n }) c.with.ensures
     ∙ whole_left a.completed k v n (whole_room k l r w) (c.judge-verdict.ensures ∙ ap judge_of (whole_body k l r w)) (sym (whole_size k l r w))

@@ -21,7 +21,6 @@ use Rattle.judge.specs.declared.Standing.TheVariants.{Nowhere, Outside, Inside}
 use Rattle.loops.specs.declared.Flow.{Flow}
 use Rattle.loops.specs.declared.Flow.TheVariants.{Free, Within, Ended}
 use Rattle.loops.specs.declared.Turn.{Turn}
-use Rattle.judge.specs.declared.Found.{Found}
 use Rattle.refusal.specs.declared.Fault.{Fault}
 use Rattle.refusal.specs.Refusal.{fault}
 use Rattle.std.specs.Result.{result_ok}

@@ -14,12 +14,11 @@ use Rattle.program.specs.declared.Form.{Form}
 use Rattle.program.specs.declared.Form.TheVariants.{Text, Bare, Number}
 use Rattle.program.specs.declared.Command.{Command}
 use Rattle.basis.proofs.Choices.{and_parts, when_true, when_false}
-use Rattle.refusal.proofs.Names.{some_one}
 use Rattle.program.proofs.Rows.{row_holds}
 use Rattle.program.proofs.Laws.{made, at_least_two, bare_ends}
 use Rattle.loops.specs.Token.{role_of, Tok, size_of, part_of, act_of, tok_of, get}
-use Rattle.loops.specs.Structure.{Structure, broken, kept, structure_of, role_in, opened, moved, move_of}
-use Rattle.loops.specs.Flow.{room_of, ended_of, opens_of, flow_of, rule_of, turn_of, here_of, turned_of, go_on}
+use Rattle.loops.specs.Structure.{kept, structure_of, role_in, opened, moved, move_of}
+use Rattle.loops.specs.Flow.{room_of, ended_of, opens_of, turn_of, here_of, turned_of}
 use Rattle.loops.specs.declared.Role.{Role}
 use Rattle.loops.specs.declared.Role.TheVariants.{Plain, Repeat, Close, Forever, Again}
 use Rattle.loops.specs.declared.Open.{Open}
@@ -27,7 +26,7 @@ use Rattle.loops.specs.declared.Flow.{Flow}
 use Rattle.loops.specs.declared.Turn.{Turn}
 use Rattle.refusal.specs.declared.Fault.{Fault}
 use Rattle.refusal.specs.Refusal.{fault}
-use Rattle.std.proofs.Common.{Result, Ok, Err, Option, Some, None}
+use Rattle.std.proofs.Common.{Result, Ok, Err}
 
 -- `E`, `F` and `R` are two bytes without parameter
 is_bare : Form → Bool

@@ -1,23 +1,22 @@
 -- Laws of a parameter: where it ends, and a command by its form.
 use Prim.Native.Nat.{ℕ, suc, ◌+◌, ◌≤◌}
-use mathlib.Core.Path.{◌≡◌, refl, sym, ap, subst, ◌∙◌}
+use mathlib.Core.Path.{◌≡◌, refl, subst}
 use mathlib.Core.Bool.{Bool, true, false}
 use mathlib.Core.List.{List, [], ◌∷◌}
 use native.Mathlib.Omega.{arith}
 use lib.Dec.{eqb}
-use lib.ListN.{length, get_or, drop}
+use lib.ListN.{length}
 use Rattle.basis.specs.Choice.{when, ◌and◌, within}
-use Rattle.params.specs.Bytes.{caret, param_of, first_of, read_to}
+use Rattle.params.specs.Bytes.{first_of, read_to}
 use Rattle.params.specs.Text.{wrong_of, text_of}
 use Rattle.params.specs.Number.{digits, value_of}
-use Rattle.program.specs.Command.{bare_of, parameter_of}
+use Rattle.program.specs.Command.{parameter_of}
 use Rattle.program.specs.declared.Form.{Form}
 use Rattle.program.specs.declared.Form.TheVariants.{Text, Bare, Number}
 use Rattle.params.specs.declared.Parameter.{Parameter}
 use Rattle.refusal.specs.declared.Fault.{Fault}
 use Rattle.refusal.specs.Refusal.{fault}
 use Rattle.std.proofs.Common.{Result, Ok, Err}
-use Rattle.params.proofs.Places.{param_end, param_next}
 
 -- what is not right ends nowhere, and what is ends behind its bytes
 abbrev pub Ends : ℕ → Result Parameter Fault → Type 0

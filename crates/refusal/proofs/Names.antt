@@ -1,5 +1,5 @@
 -- Names and numbers for no are one to one, and a table whose numbers have names gives one of them.
-use Rattle.std.proofs.Common.{◌≡◌, ℕ, zero, suc, ◌<◌, Bool, true, false, List, [], ◌∷◌, sym, refl, ap, ◌∙◌, arith, Result, Ok, Err, Option, Some}
+use Rattle.std.proofs.Common.{◌≡◌, ◌<◌, Bool, true, false, List, [], ◌∷◌, sym, refl, ap, ◌∙◌, arith, Result, Ok, Err, Option, Some}
 use Rattle.basis.specs.Choice.{when}
 use Rattle.basis.specs.Rows.{Row, ◌if◌, first_of}
 use Rattle.refusal.specs.Refusal.{number_of, refusal_of, fault, Named, AllNamed}

@@ -20,7 +20,6 @@ use Rattle.packet.proofs.Stands.{part_stands}
 use Rattle.reader.proofs.ReadBack.{body_reads}
 use Rattle.grammar.specs.Grammar.{accepted_as}
 use Rattle.judge.specs.Verdict.{Verdict, judge_of}
-use Rattle.program.specs.Table.{known}
 use Rattle.std.proofs.Common.{Ok, Err}
 use Rattle.machine.specs.Step.{started_of}
 use Rattle.room.specs.Room.{room_of}

@@ -9,7 +9,6 @@ use Rattle.basis.proofs.Tests.{tests}
 use borrow.Author.Rules.{rules}
 use Rattle.words.proofs.line.tell_forecast.Goals as goal
 use Rattle.std.proofs.Common.{Ok, Err}
-use Rattle.refusal.specs.Refusal.{fault}
 
 pub returns-then-answer-lt24 : goal.returns-then-answer-lt24
 returns-then-answer-lt24 c = search tests

@@ -25,72 +25,54 @@ pub struct Sums {
 }
 
 // A loop closed behind its first pass: the totals before it, that pass, and what each later one costs.
-fn closed(body: &[u8], outer: Open, first: Reckoned, entry: Settings, before: Totals) -> Totals
-    requires { (length body.now ≤ 84) × Passed body.now (Within outer) first entry }
-    ensures { result ≡ closed_of body.now outer first entry before }
+fn closed(body: &[u8], outer: Open, sums: Sums) -> Totals
+    requires { (length body.now ≤ 84) × Passed body.now (Within outer) sums.at sums.entry }
+    ensures { result ≡ closed_of body.now outer sums.at sums.entry sums.before }
 {
+    let first = sums.at;
     let start = Reckoned {
         place: outer.behind,
-        settings: entry,
+        settings: sums.entry,
         totals: Totals::none(),
     };
     let again = later(body, start, first);
-    let once = first.totals;
-    let read = before.plus(once);
+    let read = sums.before.plus(first.totals);
     read.plus(again.times((outer.number - 1) as u8))
 }
 
 // An `E`, which closes the open loop.
-fn closes(body: &[u8], flow: Flow, here: Reckoned, entry: Settings, before: Totals) -> Sums
-    requires { (length body.now ≤ 84) × Passed body.now flow here entry }
-    ensures { result ≡ closes_of body.now flow here entry before }
+fn closes(body: &[u8], flow: Flow, sums: Sums) -> Sums
+    requires { (length body.now ≤ 84) × Passed body.now flow sums.at sums.entry }
+    ensures { result ≡ closes_of body.now flow sums.at sums.entry sums.before }
 {
     match flow {
-        Flow::Free | Flow::Ended => Sums {
-            at: here,
-            entry,
-            before,
+        Flow::Free | Flow::Ended => sums,
+        Flow::Within(open) => Sums {
+            at: Reckoned {
+                totals: closed(body, open, sums),
+                ..sums.at
+            },
+            ..sums
         },
-        Flow::Within(open) => {
-            let settings = here.settings;
-            let at = Reckoned {
-                place: here.place,
-                settings,
-                totals: closed(body, open, here, entry, before),
-            };
-            Sums { at, entry, before }
-        }
     }
 }
 
-// What a command of this kind leaves, `here` being reckoned behind it.
-fn taken(
-    body: &[u8],
-    kind: Kind,
-    flow: Flow,
-    here: Reckoned,
-    entry: Settings,
-    before: Totals,
-) -> Sums
-    requires { (length body.now ≤ 84) × (role_of kind ≡ Close → Passed body.now flow here entry) }
-    ensures { result ≡ taken_of body.now (role_of kind) flow here entry before }
+// What a command of this kind leaves, the sums being reckoned behind it.
+fn taken(body: &[u8], kind: Kind, flow: Flow, sums: Sums) -> Sums
+    requires { (length body.now ≤ 84) × (role_of kind ≡ Close → Passed body.now flow sums.at sums.entry) }
+    ensures { result ≡ taken_of body.now (role_of kind) flow sums.at sums.entry sums.before }
 {
     match role_of(kind) {
-        Role::Plain | Role::Forever | Role::Again => Sums {
-            at: here,
-            entry,
-            before,
-        },
+        Role::Plain | Role::Forever | Role::Again => sums,
         Role::Repeat => Sums {
             at: Reckoned {
-                place: here.place,
-                settings: here.settings,
                 totals: Totals::none(),
+                ..sums.at
             },
-            entry: here.settings,
-            before: here.totals,
+            entry: sums.at.settings,
+            before: sums.at.totals,
         },
-        Role::Close => closes(body, flow, here, entry, before),
+        Role::Close => closes(body, flow, sums),
     }
 }
 
@@ -103,8 +85,6 @@ fn summed(body: &[u8], read: Result<Command, Fault>, flow: Flow, sums: Sums) -> 
         return sums;
     };
     let at = sums.at;
-    let entry = sums.entry;
-    let before = sums.before;
     let kind = command.kind;
     let number = command.number as u8;
     let text = command.text;
@@ -118,7 +98,7 @@ fn summed(body: &[u8], read: Result<Command, Fault>, flow: Flow, sums: Sums) -> 
         settings: settings.behind(kind, number),
         totals: totals.plus(Totals::cost(performed)),
     };
-    taken(body, kind, flow, here, entry, before)
+    taken(body, kind, flow, Sums { at: here, ..sums })
 }
 
 // What is told where no command is left.

@@ -12,7 +12,6 @@ use Rattle.perform.specs.declared.settings.Settings.{Settings}
 use Rattle.perform.specs.declared.price.Performed.{Performed}
 use Rattle.judge.specs.Verdict.{judge_of}
 use Rattle.judge.specs.declared.Ending.TheVariants.{Finite, Endless}
-use Rattle.program.specs.Table.{known}
 use Rattle.std.proofs.Common.{Ok}
 use Rattle.grammar.specs.Grammar.{accepted_as}
 use Rattle.course.specs.Price.{sum_by, scans, millis}

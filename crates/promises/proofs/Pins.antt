@@ -29,7 +29,6 @@ use Rattle.reply.specs.declared.Status.{Status}
 use Rattle.reply.proofs.Replies.{reply_reads, reply_only}
 use Rattle.judge.specs.Verdict.{Verdict, judge_of, told_of as verdict_told}
 use Rattle.judge.specs.declared.Ending.TheVariants.{Finite, Endless}
-use Rattle.program.specs.Table.{known}
 use Rattle.std.proofs.Common.{Ok, Err}
 use Rattle.grammar.proofs.Grammars.{accepted_described}
 use Rattle.refusal.specs.Refusal.{number_of}

@@ -1,12 +1,12 @@
 -- Yes and no are told apart: no refusal has the number 0, so a caller who finds 0 in the low byte of a result was not refused.
-use Prim.Native.Nat.{ℕ, zero, suc, ◌+◌, ◌<◌}
+use Prim.Native.Nat.{ℕ, ◌<◌}
 use mathlib.Core.Bool.{Bool, true, false}
-use mathlib.Core.List.{List, [], ◌∷◌}
-use mathlib.Core.Path.{◌≡◌, refl, sym, ap, ◌∙◌}
+use mathlib.Core.List.{List}
+use mathlib.Core.Path.{◌≡◌, sym, ap, ◌∙◌}
 use native.Mathlib.Omega.{arith}
 use lib.Dec.{eqb}
-use lib.ListN.{length, get_or, drop}
-use Rattle.basis.specs.Choice.{when, within, ◌and◌}
+use lib.ListN.{get_or}
+use Rattle.basis.specs.Choice.{when}
 use Rattle.packet.specs.Mid.{Allowed}
 use Rattle.reply.specs.Reply.{heard_of, heard_from, is_reply, is_told, status}
 use Rattle.reply.proofs.Replies.{heard_passes}

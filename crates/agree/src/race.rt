@@ -1,8 +1,9 @@
 // A forecast and a plain run of steps, side by side.
 use crate::make::body;
-use machine::{Answer, Loop, Run};
-use perform::Settings;
+use machine::{Loop, Run};
+use perform::{Performed, Settings};
 use reckon::{Foretold, Totals};
+use refusal::Refusal;
 
 // The settings of a sign at this pace and scans.
 fn set(pace: u8, scans: u8) -> Settings {
@@ -16,10 +17,10 @@ fn set(pace: u8, scans: u8) -> Settings {
 }
 
 // The totals with what a step answered.
-fn with(totals: Totals, answer: Answer) -> Totals {
+fn with(totals: Totals, answer: Result<Option<Performed>, Refusal>) -> Totals {
     match answer {
-        Answer::Did(performed) => totals.plus(Totals::cost(performed)),
-        Answer::Idle | Answer::Refused(_) => totals,
+        Ok(Some(performed)) => totals.plus(Totals::cost(performed)),
+        Ok(None) | Err(_) => totals,
     }
 }
 

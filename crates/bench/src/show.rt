@@ -1,5 +1,4 @@
 // A body sent to a new sign, and its first step, for the rules' examples of columns and scans (S16 to S20).
-use machine::Answer;
 use sign::Sign;
 use std::io;
 
@@ -22,11 +21,11 @@ fn sent(body: &[u8]) -> Sign {
 // The first step's start column, scans and milliseconds.
 pub(crate) fn first(rt: &impl Print, body: &str) -> io::Result<()> {
     match sent(body.as_bytes()).step().answer {
-        Answer::Did(did) => {
+        Ok(Some(did)) => {
             let (column, scans, millis) = (did.column, did.scans.0, did.millis.0);
             println!(rt; "{body}: column {column} scans {scans} ms {millis}")
         }
-        Answer::Idle => println!(rt; "{body}: idle"),
-        Answer::Refused(n) => println!(rt; "{body}: refused {n}"),
+        Ok(None) => println!(rt; "{body}: idle"),
+        Err(refusal) => println!(rt; "{body}: {refusal}"),
     }
 }

@@ -2,7 +2,6 @@
 use hear::Outcome;
 use input::digit;
 use judge::Ending;
-use machine::Answer;
 use refusal::Refusal;
 use repeater::repeat;
 use sign::{Cleared, Received, Sign, Stepped};
@@ -45,7 +44,7 @@ pub(crate) fn cleared(rt: &impl Print, got: Cleared) -> io::Result<Sign> {
 // A step's answer.
 pub(crate) fn stepped(rt: &impl Print, went: Stepped) -> io::Result<Sign> {
     match went.answer {
-        Answer::Did(did) => {
+        Ok(Some(did)) => {
             print!(rt;
                 "did number {} text {} len {}",
                 did.number, did.text, did.len
@@ -55,8 +54,8 @@ pub(crate) fn stepped(rt: &impl Print, went: Stepped) -> io::Result<Sign> {
                 did.column, did.scans.0, did.millis.0
             )?;
         }
-        Answer::Idle => println!(rt; "idle")?,
-        Answer::Refused(n) => println!(rt; "refused {n}")?,
+        Ok(None) => println!(rt; "idle")?,
+        Err(refusal) => println!(rt; "{refusal}")?,
     }
     Ok(went.sign)
 }

@@ -15,17 +15,16 @@ use Rattle.basis.proofs.Choices.{when_true, when_false}
 use Rattle.packet.specs.Mid.{is_forbidden, mid_row}
 use Rattle.packet.specs.Write.{Writes, buffer_of, written_of}
 use Rattle.packet.proofs.Numbers.{rows_told}
-use Rattle.std.specs.Prelude.{Result, Ok, Err}
+use Rattle.std.specs.Prelude.{Result, Ok, Err, Option}
+use Rattle.perform.specs.declared.price.Performed.{Performed}
 use Rattle.refusal.specs.declared.Refusal.{Refusal}
 use Rattle.refusal.specs.declared.Refusal.TheVariants.{Unsound}
 use Rattle.refusal.specs.Refusal.{AllNamed}
 use Rattle.refusal.specs.declared.Refusal.{Refusal as No}
 use Rattle.machine.specs.Step.{told_of as answer_told}
-use Rattle.machine.specs.declared.Answer.{Answer}
-use Rattle.machine.specs.declared.Answer.TheVariants.{Did, Idle, Refused as NoStep}
 use Rattle.hear.specs.Hear.{told_of as outcome_told}
 use Rattle.hear.specs.declared.Outcome.{Outcome}
-use Rattle.hear.specs.declared.Outcome.TheVariants.{Query, Reset, Repeat, Stored, Released}
+use Rattle.hear.specs.declared.Outcome.TheVariants.{Reset}
 use Rattle.sign.specs.Sound.{sound_of}
 use Rattle.sign.specs.Join.{stays_of}
 use Rattle.sign.specs.Receive.{receive_of}
@@ -237,15 +236,10 @@ ill_resets image e = ap (λ (t : Bool). (outcome_told (choice t).outcome).number
 
 -- a refusal tells nothing
 pub quiet_receive : (o : Result Outcome Refusal) (body : List ℕ) (len : ℕ) → ((outcome_told o).number ≡ 0 → ⊥) → received_bytes o body len ≡ []
-quiet_receive (Ok Query) body len h = absurd (h refl)
-quiet_receive (Ok Reset) body len h = absurd (h refl)
-quiet_receive (Ok Repeat) body len h = absurd (h refl)
-quiet_receive (Ok Stored) body len h = absurd (h refl)
-quiet_receive (Ok (Released v)) body len h = absurd (h refl)
+quiet_receive (Ok x) body len h = absurd (h refl)
 quiet_receive (Err e) body len h = refl
 
-pub quiet_step : (x : Answer) → ((answer_told x).number ≡ 0 → ⊥) → words_of (answer_told x).values ≡ []
+pub quiet_step : (x : Result (Option Performed) Refusal) → ((answer_told x).number ≡ 0 → ⊥) → words_of (answer_told x).values ≡ []
 unfolding words_of
-quiet_step (Did x) h = absurd (h refl)
-quiet_step Idle h = absurd (h refl)
-quiet_step (NoStep n) h = refl
+quiet_step (Ok x) h = absurd (h refl)
+quiet_step (Err e) h = refl

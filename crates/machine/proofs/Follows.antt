@@ -10,6 +10,9 @@ use borrow.Author.Tests.{le-leb}
 use Rattle.basis.specs.Bytes.{laid}
 use Rattle.basis.proofs.Choices.{and_true}
 use Rattle.basis.proofs.Laid.{take_laid, drop_laid, length_laid}
+use Rattle.std.specs.Prelude.{Result, Option}
+use Rattle.refusal.specs.declared.Refusal.{Refusal}
+use Rattle.perform.specs.declared.price.Performed.{Performed}
 use Rattle.perform.specs.Settings.{sound_of as settings_sound}
 use Rattle.perform.specs.declared.settings.Settings.{Settings}
 use Rattle.loops.specs.Token.{get}
@@ -25,7 +28,6 @@ use Rattle.course.proofs.Programs.{accepting}
 use Rattle.room.specs.Room.{zeros_of, room_of}
 use Rattle.machine.specs.Sound.{body_of, held_of, filled_of, sound_of}
 use Rattle.machine.specs.Step.{outside, frames_of, loop_of, ready_of, run_of, say_of, step_of, after_run, said_run, started_of}
-use Rattle.machine.specs.declared.Answer.{Answer}
 use Rattle.machine.specs.declared.Run.{Run}
 use Rattle.machine.specs.declared.Stepped.{Stepped}
 use Rattle.machine.proofs.Keeps.{Kept, run_keeps, step_ready, step_busy}
@@ -71,9 +73,9 @@ module _ (room : List ℕ) (r : Run) (busy : r.len ≡ 0 → ⊥) where
   pub follows_said : (k : ℕ) (s : State) → Kept room r s → said_run k room (run_of r s) ≡ map say_of (answers_of (get (body_of room r)) r.len k s)
   follows_said zero s h = refl
   follows_said (suc k) s h =
-      ap (λ (x : Answer). x ∷ said_run k room (step_of room (run_of r s)).run) (follow_said s h)
+      ap (λ (x : Result (Option Performed) Refusal). x ∷ said_run k room (step_of room (run_of r s)).run) (follow_said s h)
       ∙ ap (λ (x : Run). say_of (said_of (get (body_of room r)) s) ∷ said_run k room x) (follow_run s h)
-      ∙ ap (λ (xs : List Answer). say_of (said_of (get (body_of room r)) s) ∷ xs) (follows_said k (next_of (get (body_of room r)) r.len s) (follow_kept s h))
+      ∙ ap (λ (xs : List (Result (Option Performed) Refusal)). say_of (said_of (get (body_of room r)) s) ∷ xs) (follows_said k (next_of (get (body_of room r)) r.len s) (follow_kept s h))
 
 -- zeros are zeros
 zeros_left : (n : ℕ) → zeros_of (replicate n 0) ≡ true

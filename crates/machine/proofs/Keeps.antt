@@ -12,6 +12,8 @@ use lib.Seq.{length-take-le}
 use borrow.Author.Tests.{le-leb, lt-leb, eq-eqb, ne_eqb, eqb-true, eqb-false}
 use Rattle.basis.specs.Choice.{when}
 use Rattle.basis.proofs.Choices.{when_true, when_false, and_parts, and_true, within_parts, within_true}
+use Rattle.std.specs.Prelude.{Ok, Err, None}
+use Rattle.refusal.specs.declared.Refusal.TheVariants.{Unsound}
 use Rattle.perform.specs.Settings.{sound_of as settings_sound}
 use Rattle.perform.specs.declared.settings.Settings.{Settings}
 use Rattle.loops.specs.Token.{Part, act, rep, close, forever, again, Tok, good, size_of, get}
@@ -27,7 +29,6 @@ use Rattle.loops.proofs.Values.{get_loop, get_act}
 use Rattle.machine.specs.Sound.{body_of, held_of, sound_of}
 use Rattle.machine.specs.Step.{outside, frames_of, loop_of, ready_of, run_of, say_of, went_of, step_of}
 use Rattle.machine.specs.Moves.{ran_of}
-use Rattle.machine.specs.declared.Answer.TheVariants.{Idle, Refused}
 use Rattle.machine.specs.declared.Loop.{Loop as Inner}
 use Rattle.machine.specs.declared.Run.{Run}
 use Rattle.machine.specs.declared.Stepped.{Stepped}
@@ -224,7 +225,7 @@ run_keeps room r sound busy =
     (past reach h.there h.stays))
 
 -- a step of a Ready run, of a Busy one, and of an unsound one
-pub step_ready : (room : List ℕ) (r : Run) → sound_of room r ≡ true → r.len ≡ 0 → step_of room r ≡ record { run = r; answer = Idle }
+pub step_ready : (room : List ℕ) (r : Run) → sound_of room r ≡ true → r.len ≡ 0 → step_of room r ≡ record { run = r; answer = Ok None }
 unfolding step_of
 step_ready room r sound none =
     when_true (sound_of room r) (went_of room r) _ sound ∙ when_true (eqb r.len 0) _ _ (eq-eqb r.len 0 none)
@@ -237,7 +238,7 @@ step_busy room r sound busy =
     ∙ ap (λ (s : State). record { run = run_of r (next_of (get (body_of room r)) r.len s); answer = say_of (said_of (get (body_of room r)) s) })
     (when_false (eqb r.len 0) _ _ (ne_eqb r.len 0 busy))
 
-pub step_unsound : (room : List ℕ) (r : Run) → sound_of room r ≡ false → step_of room r ≡ record { run = r; answer = Refused 16 }
+pub step_unsound : (room : List ℕ) (r : Run) → sound_of room r ≡ false → step_of room r ≡ record { run = r; answer = Err Unsound }
 unfolding step_of
 step_unsound room r ill = when_false (sound_of room r) (went_of room r) _ ill
 

@@ -6,6 +6,8 @@ use mathlib.Core.Bool.{Bool, true, false}
 use mathlib.Core.Path.{◌≡◌, refl, sym, ap, ◌∙◌, subst}
 use native.Mathlib.Omega.{arith}
 use lib.ListN.{length, take}
+use Rattle.std.specs.Prelude.{Result, Ok, Option, Some}
+use Rattle.refusal.specs.declared.Refusal.{Refusal}
 use Rattle.perform.specs.Settings.{sound_of as settings_sound}
 use Rattle.perform.specs.declared.settings.Settings.{Settings}
 use Rattle.perform.specs.declared.price.Performed.{Performed}
@@ -24,8 +26,6 @@ use Rattle.machine.specs.Line.{line_of, rounds_of, performed as answers_for}
 use Rattle.machine.specs.Sound.{sound_of}
 use Rattle.room.specs.Room.{room_of}
 use Rattle.machine.specs.Step.{ready_of, run_of, say_of, step_of, after_run, said_run, started_of}
-use Rattle.machine.specs.declared.Answer.{Answer}
-use Rattle.machine.specs.declared.Answer.TheVariants.{Did}
 use Rattle.machine.specs.declared.Run.{Run}
 use Rattle.machine.proofs.Follows.{follows, follows_said, started_body, started_busy, started_sound}
 use Rattle.machine.proofs.Keeps.{Kept, step_keeps}
@@ -68,7 +68,7 @@ module _ (b : List ℕ) (e : Bool) (accepted : judge_of b ≡ accepted_as e) (σ
 -- what the states say is what the records answer
 said_are : (xs : List Performed) → map say_of (map did xs) ≡ answers_for xs
 said_are [] = refl
-said_are (x ∷ xs) = ap (λ (ys : List Answer). Did x ∷ ys) (said_are xs)
+said_are (x ∷ xs) = ap (λ (ys : List (Result (Option Performed) Refusal)). Ok (Some x) ∷ ys) (said_are xs)
 
 -- a finite program that was started
 pub record LineEnds (b : List ℕ) (σ : Settings) : Type 0 where

@@ -11,6 +11,8 @@ use lib.ListN.{take, drop}
 use borrow.Author.Tests.{lt-ltb, le-ltb, le-leb, lt-leb, ne_eqb}
 use Rattle.basis.specs.Choice.{when}
 use Rattle.basis.proofs.Choices.{when_true, when_false}
+use Rattle.std.specs.Prelude.{Result, Ok, Option, Some}
+use Rattle.refusal.specs.declared.Refusal.{Refusal}
 use Rattle.measure.specs.Width.{widths_of}
 use Rattle.measure.specs.declared.width.Widths.{Widths}
 use Rattle.program.specs.Command.{read_of}
@@ -27,8 +29,6 @@ use Rattle.loops.proofs.Moves.{next_is}
 use Rattle.course.specs.Steps.{Frame, frame, ready, at, settle, closed, returned, goes_of, went_at, said_at}
 use Rattle.machine.specs.Step.{outside, frames_of, loop_of, run_of, say_of}
 use Rattle.machine.specs.Moves.{settled_of, closed_of, returned_of, moved_of, ran_of}
-use Rattle.machine.specs.declared.Answer.{Answer}
-use Rattle.machine.specs.declared.Answer.TheVariants.{Did}
 use Rattle.machine.specs.declared.Run.{Run}
 use Rattle.machine.specs.declared.Stepped.{Stepped}
 use Rattle.machine.proofs.Commands.{says_is}
@@ -92,7 +92,7 @@ pub ran_good : (b : List ℕ) (r : Run) (c : Command) (w : Widths) (x : Run) (y 
     → w ≡ widths_of (take c.len (drop c.text b))
     → y ≡ answer_of c.kind c.number c.text c.len w r.settings
     → x ≡ moved_of (role_of c.kind) c.kind c.number r c.next
-    → ◌≡◌ {A = Stepped} (record { run = x; answer = Did y }) (ran_of b r)
+    → ◌≡◌ {A = Stepped} (record { run = x; answer = Ok (Some y) }) (ran_of b r)
 ran_good b r c w x y e ew ey ex =
     let p = r.place in
     let ρ = role_of c.kind in
@@ -102,8 +102,8 @@ ran_good b r c w x y e ew ey ex =
     ex
     ∙ sym (moved_by ρ b p c r (next_is b p c e ρ refl))
     ∙ ap (λ (t : Tok). run_of r (went_at r.len t p (frames_of r.inner) r.settings)) (sym there) in
-    let says : Did y ≡ say_of (said_at (get b p) r.settings) =
-    ap Did (ey ∙ ap (λ (v : Widths). answer_of c.kind c.number c.text c.len v r.settings) ew ∙ sym (says_is b p c r.settings e))
+    let says : Ok (Some y) ≡ say_of (said_at (get b p) r.settings) =
+    ap (λ (q : Performed). Ok (Some q)) (ey ∙ ap (λ (v : Widths). answer_of c.kind c.number c.text c.len v r.settings) ew ∙ sym (says_is b p c r.settings e))
     ∙ ap (λ (t : Tok). say_of (said_at t r.settings)) (sym there) in
-    ap (λ (z : Run). record { run = z; answer = Did y }) next
-    ∙ ap (λ (z : Answer). record { run = run_of r (went_at r.len (get b p) p (frames_of r.inner) r.settings); answer = z }) says
+    ap (λ (z : Run). record { run = z; answer = Ok (Some y) }) next
+    ∙ ap (λ (z : Result (Option Performed) Refusal). record { run = run_of r (went_at r.len (get b p) p (frames_of r.inner) r.settings); answer = z }) says

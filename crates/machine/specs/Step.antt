@@ -1,8 +1,11 @@
 -- One step of a run: the state that its record stands for, the step of that state, and the record of the next state.
 -- Rules S1 and S6 to S13, J11 for a body just started, N16 for an unsound run.
-use Rattle.std.specs.Prelude.{ℕ, zero, suc, List, [], ◌∷◌, eqb}
+use Rattle.std.specs.Prelude.{ℕ, zero, suc, List, [], ◌∷◌, eqb, Result, Ok, Err, Option, Some, None}
 use Rattle.basis.specs.Choice.{when}
-use Rattle.basis.specs.Told.{Told, yes, no}
+use Rattle.basis.specs.Told.{Told}
+use Rattle.refusal.specs.Refusal.{told_by}
+use Rattle.refusal.specs.declared.Refusal.{Refusal}
+use Rattle.refusal.specs.declared.Refusal.TheVariants.{Unsound}
 use Rattle.program.specs.Answers.{kind_of}
 use Rattle.perform.specs.declared.settings.Settings.{Settings}
 use Rattle.perform.specs.declared.price.Performed.{Performed}
@@ -11,8 +14,6 @@ use Rattle.course.specs.Steps.{Frame, frame, State, ready, at, Said, did, idle, 
 use Rattle.machine.specs.Sound.{body_of, sound_of}
 use Rattle.machine.specs.declared.Loop.{Loop}
 use Rattle.machine.specs.declared.Run.{Run}
-use Rattle.machine.specs.declared.Answer.{Answer}
-use Rattle.machine.specs.declared.Answer.TheVariants.{Did, Idle, Refused}
 use Rattle.machine.specs.declared.Stepped.{Stepped}
 
 -- no loop is open
@@ -41,14 +42,14 @@ abbrev pub run_of : Run → State → Run
 run_of r (ready σ) = ready_of σ
 run_of r (at p fs σ) = record { len = r.len; place = p; inner = loop_of fs; settings = σ }
 
-abbrev pub say_of : Said → Answer
-say_of (did x) = Did x
-say_of idle = Idle
+abbrev pub say_of : Said → Result (Option Performed) Refusal
+say_of (did x) = Ok (Some x)
+say_of idle = Ok None
 
 -- Idle changes nothing; a Busy run goes on by one command
 abbrev pub went_of : List ℕ → Run → Stepped
 went_of room r =
-    when (eqb r.len 0) (record { run = r; answer = Idle })
+    when (eqb r.len 0) (record { run = r; answer = Ok None })
     (record {
       run = run_of r (next_of (get (body_of room r)) r.len (state_of r));
       answer = say_of (said_of (get (body_of room r)) (state_of r));
@@ -56,7 +57,7 @@ went_of room r =
 
 -- an unsound run stays, and is told 16
 abbrev pub unsound_of : Run → Stepped
-unsound_of r = record { run = r; answer = Refused 16 }
+unsound_of r = record { run = r; answer = Err Unsound }
 
 -- one step of a run whose body stands at the front of a room
 unfoldable pub step_of : List ℕ → Run → Stepped
@@ -67,7 +68,7 @@ abbrev pub after_run : ℕ → List ℕ → Run → Run
 after_run zero room r = r
 after_run (suc k) room r = after_run k room (step_of room r).run
 
-abbrev pub said_run : ℕ → List ℕ → Run → List Answer
+abbrev pub said_run : ℕ → List ℕ → Run → List (Result (Option Performed) Refusal)
 said_run zero room r = []
 said_run (suc k) room r = (step_of room r).answer ∷ said_run k room (step_of room r).run
 
@@ -80,7 +81,9 @@ started_of len σ = record { len = len; place = 0; inner = outside; settings = �
 abbrev pub values_of : Performed → List ℕ
 values_of x = kind_of x.kind ∷ x.number ∷ x.text ∷ x.len ∷ x.column ∷ x.scans.0 ∷ x.millis.0 ∷ []
 
-abbrev pub told_of : Answer → Told
-told_of (Did x) = yes (values_of x)
-told_of Idle = yes (0 ∷ 0 ∷ 0 ∷ 0 ∷ 0 ∷ 0 ∷ 0 ∷ [])
-told_of (Refused n) = no n
+abbrev pub said_values : Option Performed → List ℕ
+said_values (Some x) = values_of x
+said_values None = 0 ∷ 0 ∷ 0 ∷ 0 ∷ 0 ∷ 0 ∷ 0 ∷ []
+
+abbrev pub told_of : Result (Option Performed) Refusal → Told
+told_of = told_by said_values

@@ -9,6 +9,7 @@ mod sound;
 mod steps;
 
 use perform::{Performed, Settings};
+use refusal::Refusal;
 
 // The open loop: the place behind its `L` and the count left, both 0 outside loops.
 #[derive(Clone, Copy)]
@@ -26,17 +27,9 @@ pub struct Run {
     pub settings: Settings,
 }
 
-// What a step answers: a command performed, Idle, or the number for no.
-#[derive(Clone, Copy)]
-pub enum Answer {
-    Did(Performed),
-    Idle,
-    Refused(u8),
-}
-
-// A step's answer with the run after it.
+// A step's answer with the run after it: the command performed, none where the run is Ready, or the refusal.
 #[derive(Clone, Copy)]
 pub struct Stepped {
     pub run: Run,
-    pub answer: Answer,
+    pub answer: Result<Option<Performed>, Refusal>,
 }

@@ -8,12 +8,13 @@ ghost use Rattle.machine.specs.Step.{frames_of, loop_of, ready_of, unsound_of, s
 ghost use Rattle.machine.specs.Moves.{settled_of, closed_of, returned_of, moved_of, ran_of};
 
 use crate::sound::{filled, held, rests};
-use crate::{Answer, Loop, Run, Stepped};
+use crate::{Loop, Run, Stepped};
 use judge::find;
 use loops::{Role, role_of};
 use measure::measure_at;
 use perform::{Settings, perform};
 use program::{Command, Kind};
+use refusal::Refusal;
 
 // No loop is open.
 fn none() -> Loop
@@ -125,7 +126,7 @@ impl Run {
         let said = perform(kind, number, text, count, widths, settings);
         Stepped {
             run: self.moved(kind, number, command.next),
-            answer: Answer::Did(said),
+            answer: Ok(Some(said)),
         }
     }
 
@@ -135,7 +136,7 @@ impl Run {
     {
         Stepped {
             run: self,
-            answer: Answer::Refused(16),
+            answer: Err(Refusal::Unsound),
         }
     }
 
@@ -157,7 +158,7 @@ impl Run {
             }
             return Stepped {
                 run: self,
-                answer: Answer::Idle,
+                answer: Ok(None),
             };
         }
         if !filled(room, len) {

@@ -7,6 +7,8 @@ use native.Mathlib.Omega.{arith}
 use lib.ListN.{length, take}
 use Rattle.basis.specs.Told.{Told, no_at}
 use Rattle.basis.proofs.Choices.{when_true, when_false}
+use Rattle.std.specs.Prelude.{Result, Ok, Option, Some}
+use Rattle.refusal.specs.declared.Refusal.{Refusal}
 use Rattle.perform.specs.Settings.{sound_of}
 use Rattle.perform.specs.declared.settings.Settings.{Settings}
 use Rattle.perform.specs.declared.price.Performed.{Performed}
@@ -25,8 +27,6 @@ use Rattle.reckon.proofs.Demand.{forecast_holds, forecast_never}
 use Rattle.reckon.proofs.Small.{scans_fit, millis_fit}
 use Rattle.machine.specs.Line.{line_of, rounds_of, performed}
 use Rattle.machine.specs.Step.{started_of, told_of as answer_told}
-use Rattle.machine.specs.declared.Answer.{Answer}
-use Rattle.machine.specs.declared.Answer.TheVariants.{Did}
 use Rattle.machine.specs.declared.Run.{Run}
 use Rattle.machine.proofs.Lines.{line_ends}
 use Rattle.machine.proofs.Sounds.{sound_parts as run_parts}
@@ -45,7 +45,7 @@ after_is mid [] s = refl
 after_is mid (step ∷ es) s = after_is mid es (step_of s).sign
 after_is mid (bytes b ∷ es) s = after_is mid es (receive_of s mid b).sign
 
-abbrev all_told : List Answer → List Told
+abbrev all_told : List (Result (Option Performed) Refusal) → List Told
 all_told [] = []
 all_told (x ∷ xs) = answer_told x ∷ all_told xs
 
@@ -56,7 +56,7 @@ said_is mid (bytes b ∷ es) s = said_is mid es (receive_of s mid b).sign
 
 pub performed_told : (xs : List Performed) → all_told (performed xs) ≡ told_of_all xs
 performed_told [] = refl
-performed_told (x ∷ xs) = ap (λ (ts : List Told). answer_told (Did x) ∷ ts) (performed_told xs)
+performed_told (x ∷ xs) = ap (λ (ts : List Told). answer_told (Ok (Some x)) ∷ ts) (performed_told xs)
 
 -- what the forecast refuses
 out_of_range_lem : (b : List ℕ) (pace each : ℕ) → out_of_range pace each ≡ true → forecast_of b pace each ≡ Err (fault 17 0)

@@ -12,13 +12,12 @@ use Rattle.basis.specs.Rows.{Row, first_of}
 use Rattle.basis.specs.Told.{Told}
 use Rattle.basis.proofs.Choices.{when_true}
 use Rattle.basis.proofs.Tests.{tests}
-use Rattle.std.specs.Prelude.{Ok, Result}
+use Rattle.std.specs.Prelude.{Ok, Result, None}
 use Rattle.refusal.specs.declared.Refusal.{Refusal}
 use Rattle.packet.specs.Mid.{mid_row}
 use Rattle.packet.specs.Write.{short_by, buffer_of, written_of}
 use Rattle.reader.specs.Read.{read_of}
 use Rattle.reader.specs.declared.read.Packet.TheVariants.{Normal}
-use Rattle.machine.specs.declared.Answer.TheVariants.{Idle}
 use Rattle.perform.specs.Price.{answer_of as performed_of}
 use Rattle.perform.specs.declared.settings.Settings.{Settings}
 use Rattle.loops.specs.Token.{Tok, good as right, bad, act, rep, close, forever, again as repeats, get}
@@ -92,7 +91,7 @@ ours_steps s good =
       next = ap (λ (x : Stepped). x.sign) e;
       rests = λ ready.
           ap stepped_in (e ∙ ap (stepped_of s) (step_ready s.room s.run (sound_parts s good.sound).run ready))
-          ∙ ap (λ (t : Sign). record { told = (stepped_in (record { sign = t; answer = Idle })).told; next = t }) (same_run s);
+          ∙ ap (λ (t : Sign). record { told = (stepped_in (record { sign = t; answer = Ok None })).told; next = t }) (same_run s);
     }
 
 pub ours_clears : (s : Sign) → Good s → Clears ours s

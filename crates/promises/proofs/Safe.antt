@@ -6,7 +6,8 @@ use mathlib.Core.Path.{◌≡◌, refl, sym, ap}
 use Rattle.basis.specs.Choice.{when}
 use Rattle.basis.specs.Rows.{Row, first_of}
 use Rattle.basis.specs.Told.{no}
-use Rattle.std.specs.Prelude.{Result, Ok, Err}
+use Rattle.std.specs.Prelude.{Result, Ok, Err, Option}
+use Rattle.perform.specs.declared.price.Performed.{Performed}
 use Rattle.refusal.specs.Refusal.{refusal_of}
 use Rattle.refusal.proofs.Names.{name_back}
 use Rattle.refusal.specs.declared.Refusal.{Refusal}
@@ -16,11 +17,9 @@ use Rattle.packet.specs.Wire.{query_of, reset_of as reset_packet, packet_at, tra
 use Rattle.packet.specs.Write.{short_by, packet_rows, transmission_rows, buffer_of, written_of}
 use Rattle.reply.specs.Reply.{reply_rows}
 use Rattle.machine.specs.Step.{told_of as answer_told}
-use Rattle.machine.specs.declared.Answer.{Answer}
-use Rattle.machine.specs.declared.Answer.TheVariants.{Did, Idle, Refused as Stopped}
 use Rattle.hear.specs.Hear.{told_of as outcome_told}
 use Rattle.hear.specs.declared.Outcome.{Outcome}
-use Rattle.hear.specs.declared.Outcome.TheVariants.{Query, Reset, Repeat, Stored, Released}
+use Rattle.hear.specs.declared.Outcome.TheVariants.{Reset}
 use Rattle.sign.specs.Join.{stays_of}
 use Rattle.sign.specs.Receive.{receive_of}
 use Rattle.sign.specs.Reset.{reset_of, cleared_of}
@@ -41,17 +40,12 @@ use Rattle.promises.specs.Safe.{Leaves, NoTrip}
 
 -- an outcome, or a step's answer, that is told with a number is that refusal
 pub refused_is : (o : Result Outcome Refusal) → ((outcome_told o).number ≡ 0 → ⊥) → o ≡ Err (refusal_of (outcome_told o).number)
-refused_is (Ok Query) h = absurd (h refl)
-refused_is (Ok Reset) h = absurd (h refl)
-refused_is (Ok Repeat) h = absurd (h refl)
-refused_is (Ok Stored) h = absurd (h refl)
-refused_is (Ok (Released v)) h = absurd (h refl)
+refused_is (Ok x) h = absurd (h refl)
 refused_is (Err e) h = ap (λ (x : Refusal). Err x) (sym (name_back e))
 
-stopped_is : (a : Answer) → ((answer_told a).number ≡ 0 → ⊥) → a ≡ Stopped (answer_told a).number
-stopped_is (Did x) h = absurd (h refl)
-stopped_is Idle h = absurd (h refl)
-stopped_is (Stopped n) h = refl
+stopped_is : (a : Result (Option Performed) Refusal) → ((answer_told a).number ≡ 0 → ⊥) → a ≡ Err (refusal_of (answer_told a).number)
+stopped_is (Ok x) h = absurd (h refl)
+stopped_is (Err e) h = ap (λ (x : Refusal). Err x) (sym (name_back e))
 
 -- a writer of ours that refuses leaves the buffer
 leaves : (rows : List ℕ → List Row) (bytes : List ℕ) → Leaves (λ out. left_by (rows out) bytes out)
@@ -82,7 +76,7 @@ ours_never_trips =
       cleared = cleared_good;
       receive_leaves = λ s mid b h. receive_still s mid b (ap moves_of (refused_is (receive_of s mid b).outcome h));
       receive_empty = λ s mid b h. receive_none s mid b (ap moves_of (refused_is (receive_of s mid b).outcome h));
-      step_leaves = λ s h. step_still s (answer_told (step_of s).answer).number (stopped_is (step_of s).answer h);
+      step_leaves = λ s h. step_still s (refusal_of (answer_told (step_of s).answer).number) (stopped_is (step_of s).answer h);
       clear_leaves = λ s h. reset_still s (refusal_of (outcome_told (cleared_of s).outcome).number) (refused_is (cleared_of s).outcome h);
       query_leaves = λ mid. leaves (λ out. mid_row mid ∷ short_by (query_of mid) out ∷ []) (query_of mid);
       reset_leaves = λ mid. leaves (λ out. mid_row mid ∷ short_by (reset_packet mid) out ∷ []) (reset_packet mid);

@@ -18,19 +18,11 @@ use Rattle.std.specs.Prelude.{Err}
 use Rattle.refusal.specs.declared.Refusal.{Refusal as No}
 use Rattle.refusal.specs.declared.Refusal.TheVariants.{NoReply}
 use Rattle.judge.specs.Verdict.{judge_of}
-use Rattle.course.specs.Steps.{Said, did, idle, next_of, said_of}
-use Rattle.machine.specs.Sound.{body_of, sound_of as run_sound}
-use Rattle.machine.specs.Step.{state_of, run_of, say_of, step_of as run_step}
-use Rattle.machine.specs.declared.Answer.TheVariants.{Idle, Refused as NoStep}
-use Rattle.machine.specs.declared.Run.{Run}
-use Rattle.machine.specs.declared.Stepped.{Stepped as RunStepped}
 use Rattle.reckon.specs.Forecast.{forecast_of}
 use Rattle.sign.specs.Receive.{receive_of}
 use Rattle.sign.specs.Reset.{cleared_of}
-use Rattle.sign.specs.Sound.{sound_of}
-use Rattle.sign.specs.Step.{stepped_of, step_of}
+use Rattle.sign.specs.Step.{step_of}
 use Rattle.sign.specs.declared.Sign.{Sign}
-use Rattle.sign.specs.declared.Stepped.{Stepped}
 use Rattle.std.proofs.Common.{Err}
 use Rattle.refusal.specs.declared.Fault.{Fault}
 
@@ -62,34 +54,9 @@ judge_no b w e = number_some w.refusal
 pub forecast_no : (b : List ℕ) (pace each : ℕ) (w : Fault) → forecast_of b pace each ≡ Err w → 0 < number_of w.refusal
 forecast_no b pace each w e = number_some w.refusal
 
--- a refused step, and a refused reset, are 16
-run_no : (room : List ℕ) (r : Run) (n : ℕ) → (run_step room r).answer ≡ NoStep n → 0 < n
-unfolding run_step
-run_no room r n e =
-    go (run_sound room r) (eqb r.len 0) (run_of r (next_of (get (body_of room r)) r.len (state_of r))) (said_of (get (body_of room r)) (state_of r)) e
-  where
-    says : (x : Said) → say_of x ≡ NoStep n → 0 < n
-    says (did x) w = let z : ◌≡◌ {A = ℕ} 0 1 = cc in absurd (omega arith)
-    says idle w = let z : ◌≡◌ {A = ℕ} 0 1 = cc in absurd (omega arith)
-
-    whether : (t u : Bool) (next : Run) (x : Said) → RunStepped
-    whether t u next x = when t (when u (record { run = r; answer = Idle }) (record { run = next; answer = say_of x })) (record { run = r; answer = NoStep 16 })
-
-    go : (t u : Bool) (next : Run) (x : Said) → (whether t u next x).answer ≡ NoStep n → 0 < n
-    go true true next x w = let z : ◌≡◌ {A = ℕ} 0 1 = cc in absurd (omega arith)
-    go true false next x w = says x w
-    go false u next x w = let z : 16 ≡ n = cc in omega arith
-
-pub step_no_lem : (s : Sign) (n : ℕ) → (step_of s).answer ≡ NoStep n → 0 < n
-unfolding step_of
-step_no_lem s n e = go (sound_of s) e
-  where
-    whether : Bool → Stepped
-    whether t = when t (stepped_of s (run_step s.room s.run)) (record { sign = s; answer = NoStep 16 })
-
-    go : (t : Bool) → (whether t).answer ≡ NoStep n → 0 < n
-    go true w = run_no s.room s.run n w
-    go false w = let z : 16 ≡ n = cc in omega arith
+-- a refused step, and a refused reset, have a number
+pub step_no_lem : (s : Sign) (e : No) → (step_of s).answer ≡ Err e → 0 < number_of e
+step_no_lem s e q = number_some e
 
 pub reset_no_lem : (s : Sign) (e : No) → (cleared_of s).outcome ≡ Err e → 0 < number_of e
 reset_no_lem s e q = number_some e

@@ -1,6 +1,6 @@
 -- The line: a started program, its steps and whatever bytes come between them, and its forecast. Demand 3, by L28 and
 -- L29 for judging, S22 to S26, S32 and N17 for the forecast, S11 for the end.
-use Rattle.std.specs.Prelude.{ℕ, suc, ◌^◌, ◌≤◌, ◌<◌, true, false, List, [], ◌∷◌, ◌++◌, ◌≡◌, length, take, Ok}
+use Rattle.std.specs.Prelude.{ℕ, suc, ◌^◌, ◌≤◌, ◌<◌, true, false, List, [], ◌∷◌, ◌++◌, ◌≡◌, length, take, Ok, Some}
 use Rattle.basis.specs.Told.{Told, no_at}
 use Rattle.perform.specs.Settings.{sound_of}
 use Rattle.perform.specs.declared.settings.Settings.{Settings}
@@ -15,7 +15,6 @@ use Rattle.reckon.specs.Forecast.{out_of_range, told_of as forecast_told}
 use Rattle.reckon.specs.declared.reckon.Foretold.TheVariants.{Ends, Endless as Never}
 use Rattle.machine.specs.Line.{line_of, rounds_of}
 use Rattle.machine.specs.Step.{started_of, told_of as answer_told}
-use Rattle.machine.specs.declared.Answer.TheVariants.{Did}
 use Rattle.totals.specs.Totals.{totals_of}
 use Rattle.room.specs.Room.{room_of}
 use Rattle.service.specs.Driver.{Event, step, bytes, steps_in, Quiet}
@@ -36,7 +35,7 @@ said u mid (bytes b ∷ es) r = said u mid es (u.receive r mid b).next
 -- what steps answer that perform these commands
 abbrev pub told_of_all : List Performed → List Told
 told_of_all [] = []
-told_of_all (x ∷ xs) = answer_told (Did x) ∷ told_of_all xs
+told_of_all (x ∷ xs) = answer_told (Ok (Some x)) ∷ told_of_all xs
 
 -- one step more
 abbrev pub then_step : List Event → List Event

@@ -1,6 +1,6 @@
 -- The record: joining, rule by rule (J2 to J13), what a reset (J14) and power-on (J15) leave, a step (S1, S12), and
 -- what a sign tells of itself: the reply (J16), the copy of the running body (S28), and the repeater's part (S29, S30).
-use Rattle.std.specs.Prelude.{ℕ, ◌+◌, ◌≤◌, ◌<◌, Bool, true, false, List, [], ◌∷◌, ◌≡◌, length, get_or, take, drop, Ok, Err}
+use Rattle.std.specs.Prelude.{ℕ, ◌+◌, ◌≤◌, ◌<◌, Bool, true, false, List, [], ◌∷◌, ◌≡◌, length, get_or, take, drop, Ok, Err, None}
 use Rattle.basis.specs.Told.{Told, no}
 use Rattle.refusal.specs.Refusal.{number_of}
 use Rattle.refusal.specs.declared.Refusal.{Refusal}
@@ -11,7 +11,6 @@ use Rattle.reader.specs.declared.read.Packet.TheVariants.{Query as QueryRead, Re
 use Rattle.completed.specs.Completed.{has_of}
 use Rattle.collect.specs.Slots.{begun_of, stored_of}
 use Rattle.machine.specs.Step.{step_of as run_step, told_of as answer_told}
-use Rattle.machine.specs.declared.Answer.TheVariants.{Idle}
 use Rattle.hear.specs.Hear.{told_of as outcome_told}
 use Rattle.hear.specs.Join.{begins_of, slot_of}
 use Rattle.hear.specs.declared.Outcome.TheVariants.{Query, Reset, Repeat}
@@ -70,7 +69,7 @@ pub record Joins {R : Type 0} (u : Calls R) (r : R) (mid : ℕ) (b : List ℕ) (
 pub record Steps {R : Type 0} (u : Calls R) (r : R) : Type 0 where
   pub told : (u.step r).told ≡ answer_told (run_step (u.holds r).room (u.holds r).run).answer
   pub next : u.holds (u.step r).next ≡ (stepped_of (u.holds r) (run_step (u.holds r).room (u.holds r).run)).sign
-  pub rests : (u.holds r).run.len ≡ 0 → u.step r ≡ record { told = answer_told Idle; next = r }
+  pub rests : (u.holds r).run.len ≡ 0 → u.step r ≡ record { told = answer_told (Ok None); next = r }
 
 -- a reset by a call
 pub record Clears {R : Type 0} (u : Calls R) (r : R) : Type 0 where

@@ -1,5 +1,5 @@
 -- Wrong units, those of P3 and P4 among them, each refuted in proofs/Wrong: what the promises shut out.
-use Rattle.std.specs.Prelude.{ℕ, suc, ◌-◌, Bool, false, List, [], ◌∷◌, ◌++◌, eqb, ltb, length, get_or, take, drop, replicate, Result, Ok, Err}
+use Rattle.std.specs.Prelude.{ℕ, suc, ◌-◌, Bool, false, List, [], ◌∷◌, ◌++◌, eqb, ltb, length, get_or, take, drop, replicate, Result, Ok, Err, None}
 use Rattle.basis.specs.Choice.{when, ◌and◌, ◌or◌}
 use Rattle.basis.specs.Told.{Told, yes, no}
 use Rattle.refusal.specs.declared.Refusal.{Refusal}
@@ -30,7 +30,6 @@ use Rattle.reckon.specs.Forecast.{settings_at, forecast_of, told_of as forecast_
 use Rattle.reckon.specs.declared.reckon.Foretold.{Foretold}
 use Rattle.reckon.specs.declared.reckon.Foretold.TheVariants.{Ends, Endless as Never}
 use Rattle.machine.specs.Step.{ready_of, started_of, say_of, told_of as answer_told}
-use Rattle.machine.specs.declared.Answer.TheVariants.{Idle}
 use Rattle.hear.specs.Hear.{told_of as outcome_told}
 use Rattle.hear.specs.Join.{begins_of}
 use Rattle.hear.specs.declared.Outcome.TheVariants.{Reset as ResetHeard, Repeat}
@@ -367,7 +366,7 @@ jumpy = receiving (λ s mid b. when (eqb s.run.len 0) (startled s (read_of mid b
 -- a sign whose step and reset change nothing, and say Idle and Reset
 abbrev pub frozen : Calls Sign
 frozen =
-    works ours.forecast ours.holds ours.power ours.receive (λ s. record { told = answer_told Idle; next = s })
+    works ours.forecast ours.holds ours.power ours.receive (λ s. record { told = answer_told (Ok None); next = s })
     (λ s. record { told = outcome_told (Ok ResetHeard); next = s })
     ours.reply
     ours.copy
@@ -499,7 +498,7 @@ script_of before [] σ = before
 script_of before (x ∷ xs) σ = told_of_all (once (tree_in (x ∷ xs)).block σ)
 
 abbrev pub first_said : List Told → Told
-first_said [] = answer_told Idle
+first_said [] = answer_told (Ok None)
 first_said (t ∷ ts) = t
 
 abbrev pub rest_said : List Told → List Told

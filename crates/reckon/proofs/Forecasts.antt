@@ -9,6 +9,8 @@ use lib.Dec.{eqb}
 use lib.ListN.{length}
 use borrow.Author.Tests.{eq-eqb, ne_eqb}
 use Rattle.basis.proofs.Choices.{when_true, when_false, and_true, within_true}
+use Rattle.std.specs.Prelude.{Result, Ok, Option, Some}
+use Rattle.refusal.specs.declared.Refusal.{Refusal}
 use Rattle.units.specs.Units.{capped}
 use Rattle.perform.specs.Settings.{sound_of as settings_sound}
 use Rattle.perform.specs.declared.settings.Settings.{Settings}
@@ -25,8 +27,6 @@ use Rattle.room.specs.Room.{room_of}
 use Rattle.machine.specs.Step.{ready_of, step_of, after_run, said_run, started_of}
 use Rattle.reckon.specs.Forecast.{measured, tally, most_steps, tallies_of, left_by, settled_of, settings_at, out_of_range, by_verdict, forecast_of}
 use Rattle.reckon.specs.Forecast.{prices_of}
-use Rattle.machine.specs.declared.Answer.{Answer}
-use Rattle.machine.specs.declared.Answer.TheVariants.{Did}
 use Rattle.machine.specs.declared.Run.{Run}
 use Rattle.machine.proofs.Follows.{ready_none}
 use Rattle.machine.proofs.Lines.{BusyRun, line_ends}
@@ -43,10 +43,10 @@ tally_is f zero [] room r most said busy done = refl
 tally_is f zero (x ∷ xs) room r most said busy done = absurd (omega arith)
 tally_is f (suc fuel) [] room r most said busy done = when_true (eqb r.len 0) _ _ (eq-eqb r.len 0 done)
 tally_is f (suc fuel) (x ∷ xs) room r most said busy done =
-    let now : (step_of room r).answer ≡ Did x = cc in
+    let now : (step_of room r).answer ≡ Ok (Some x) = cc in
     let rest : said_run (length xs) room (step_of room r).run ≡ performed xs = cc in
     when_false (eqb r.len 0) _ _ (ne_eqb r.len 0 (busy 0 (omega arith)))
-    ∙ ap (λ (a : Answer). measured f a + tally f fuel room (step_of room r).run) now
+    ∙ ap (λ (a : Result (Option Performed) Refusal). measured f a + tally f fuel room (step_of room r).run) now
     ∙ ap (λ (n : ℕ). f x + n) (tally_is f fuel xs room (step_of room r).run (omega arith) rest (λ k h. busy (suc k) (omega arith)) done)
 
 -- each sum until Ready is the price

@@ -1,8 +1,9 @@
 -- The forecast: the sums over the steps of a run, from its start until it is Ready, and the settings that it then has.
 -- Rules S22 to S26 for the sums, S32 for the settings, N17 before what judging refuses.
-use Rattle.std.specs.Prelude.{ℕ, zero, suc, ◌+◌, List, [], ◌∷◌, Bool, not, eqb, length, Result, Ok, Err}
+use Rattle.std.specs.Prelude.{ℕ, zero, suc, ◌+◌, List, [], ◌∷◌, Bool, not, eqb, length, Result, Ok, Err, Option, Some, None}
 use Rattle.basis.specs.Choice.{when, ◌and◌, within}
 use Rattle.basis.specs.Told.{Told, yes, no_at}
+use Rattle.refusal.specs.declared.Refusal.{Refusal}
 use Rattle.units.specs.Units.{capped}
 use Rattle.perform.specs.declared.settings.Settings.{Settings}
 use Rattle.perform.specs.declared.price.Performed.{Performed}
@@ -16,8 +17,6 @@ use Rattle.course.specs.Tree.{Block, exit_of, tree_in}
 use Rattle.room.specs.Room.{room_of}
 use Rattle.machine.specs.Step.{step_of, started_of}
 use Rattle.totals.specs.Totals.{totals_of}
-use Rattle.machine.specs.declared.Answer.{Answer}
-use Rattle.machine.specs.declared.Answer.TheVariants.{Did, Idle, Refused as RefusedStep}
 use Rattle.machine.specs.declared.Run.{Run}
 use Rattle.reckon.specs.declared.reckon.Foretold.{Foretold}
 use Rattle.reckon.specs.declared.reckon.Foretold.TheVariants.{Ends, Endless as Never}
@@ -25,10 +24,10 @@ use Rattle.totals.specs.declared.Totals.{Totals}
 use Rattle.refusal.specs.Refusal.{number_of, fault}
 
 -- a measure of what a step answered
-abbrev pub measured : (Performed → ℕ) → Answer → ℕ
-measured f (Did x) = f x
-measured f Idle = 0
-measured f (RefusedStep n) = 0
+abbrev pub measured : (Performed → ℕ) → Result (Option Performed) Refusal → ℕ
+measured f (Ok (Some x)) = f x
+measured f (Ok None) = 0
+measured f (Err e) = 0
 
 -- the sum of a measure over the steps of a run until it is Ready, within so many steps, with its body at the front of a room
 unfoldable pub tally : (Performed → ℕ) → ℕ → List ℕ → Run → ℕ

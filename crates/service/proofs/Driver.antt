@@ -9,7 +9,8 @@ use lib.Dec.{eqb, leb}
 use lib.ListN.{get_or, take, drop}
 use borrow.Author.Tests.{ne_eqb, eqb-true, eqb-false}
 use Rattle.basis.specs.Choice.{when, ◌or◌}
-use Rattle.std.specs.Prelude.{Result, Ok, Err}
+use Rattle.std.specs.Prelude.{Result, Ok, Err, Option}
+use Rattle.perform.specs.declared.price.Performed.{Performed}
 use Rattle.refusal.specs.declared.Refusal.TheVariants.{Busy, OtherPacket, Unsound}
 use Rattle.refusal.specs.declared.Refusal.{Refusal}
 use Rattle.completed.specs.Completed.{has_of}
@@ -21,8 +22,6 @@ use Rattle.loops.specs.Token.{get}
 use Rattle.course.specs.Steps.{Said, did, idle, at, said_of}
 use Rattle.machine.specs.Step.{frames_of, say_of, step_of as run_step}
 use Rattle.machine.specs.Sound.{body_of, sound_of as run_sound}
-use Rattle.machine.specs.declared.Answer.{Answer}
-use Rattle.machine.specs.declared.Answer.TheVariants.{Refused as Stopped}
 use Rattle.sign.specs.Sound.{collected_of, sound_of}
 use Rattle.sign.specs.Reset.{reset_of, cleared_of}
 use Rattle.hear.specs.Join.{slot_of}
@@ -160,14 +159,14 @@ driver_after mid (bytes b ∷ es) s u =
 
 pub driver_said : (mid : ℕ) (es : List Event) (s : Sign) → Undisturbed mid es s → said_events mid es s ≡ said_steps (steps_in es) s
 driver_said mid [] s u = refl
-driver_said mid (step ∷ es) s u = ap (λ (xs : List Answer). (step_of s).answer ∷ xs) (driver_said mid es (step_of s).sign u)
+driver_said mid (step ∷ es) s u = ap (λ (xs : List (Result (Option Performed) Refusal)). (step_of s).answer ∷ xs) (driver_said mid es (step_of s).sign u)
 driver_said mid (bytes b ∷ es) s u = ap (said_events mid es) (busy_stays s mid b u.0 u.1.0) ∙ driver_said mid es s u.1.1
 
 -- a refused step leaves the record: only an unsound one is refused
-pub step_still : (s : Sign) (n : ℕ) → (step_of s).answer ≡ Stopped n → (step_of s).sign ≡ s
-step_still s n h = go (sound_of s) refl
+pub step_still : (s : Sign) (no_step : Refusal) → (step_of s).answer ≡ Err no_step → (step_of s).sign ≡ s
+step_still s no_step h = go (sound_of s) refl
   where
-    said : (x : Said) → say_of x ≡ Stopped n → (step_of s).sign ≡ s
+    said : (x : Said) → say_of x ≡ Err no_step → (step_of s).sign ≡ s
     said (did x) e = let z : ◌≡◌ {A = ℕ} 0 1 = cc in absurd (omega arith)
     said idle e = let z : ◌≡◌ {A = ℕ} 0 1 = cc in absurd (omega arith)
 
@@ -178,7 +177,7 @@ step_still s n h = go (sound_of s) refl
         run : run_sound s.room s.run ≡ true
         run = (sound_parts s e).run
 
-        answer : (run_step s.room s.run).answer ≡ Stopped n
+        answer : (run_step s.room s.run).answer ≡ Err no_step
         answer = sym (ap (λ (x : Stepped). x.answer) (sound_steps s e)) ∙ h
 
         ran : (t : Bool) → eqb s.run.len 0 ≡ t → (step_of s).sign ≡ s

@@ -11,7 +11,7 @@ use borrow.Author.Tests.{leb-false, eqb-true, eqb-false}
 use Rattle.basis.specs.Choice.{when, ◌and◌, ◌or◌, within}
 use Rattle.basis.proofs.Choices.{and_parts, when_true}
 use Rattle.basis.proofs.Laid.{length_laid}
-use Rattle.std.specs.Prelude.{Result, Ok, Err}
+use Rattle.std.specs.Prelude.{Result, Ok, Err, None}
 use Rattle.refusal.specs.declared.Refusal.TheVariants.{Busy, OtherPacket, Unsound}
 use Rattle.refusal.specs.declared.Refusal.{Refusal}
 use Rattle.reader.specs.Read.{read_of}
@@ -37,7 +37,6 @@ use Rattle.collect.proofs.Sounds.{sound_collecting, collecting_sound, none_sound
 use Rattle.machine.specs.Sound.{sound_of as run_sound}
 use Rattle.machine.specs.Step.{ready_of, started_of, step_of as run_step}
 use Rattle.machine.specs.declared.Run.{Run}
-use Rattle.machine.specs.declared.Answer.TheVariants.{Idle}
 use Rattle.machine.specs.declared.Stepped.{Stepped as RunStepped}
 use Rattle.machine.proofs.Sounds.{sound_parts as run_parts, ready_anywhere}
 use Rattle.machine.proofs.Keeps.{ready_sound, step_ready, step_keeps}
@@ -304,7 +303,7 @@ step_good s g = subst (λ (r : Stepped). Good r.sign) (sym (sound_steps s g.soun
 
     go : (t : Bool) → eqb s.run.len 0 ≡ t → Good (new (when (not t and eqb went.len 0) (replicate 84 0) s.room))
     go true e =
-        let same : run_step s.room s.run ≡ record { run = s.run; answer = Idle } =
+        let same : run_step s.room s.run ≡ record { run = s.run; answer = Ok None } =
         step_ready s.room s.run p.run (eqb-true s.run.len 0 e) in
         subst (λ (x : RunStepped). Good (record { completed = s.completed; slots = s.slots; room = s.room; run = x.run })) (sym same) g
     go false e = after (eqb went.len 0) refl (eqb-false s.run.len 0 e)

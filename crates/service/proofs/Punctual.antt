@@ -9,6 +9,9 @@ use lib.ListN.{length, replicate}
 use borrow.Author.Tests.{eq-eqb, ne_eqb, eqb-true, eqb-false}
 use Rattle.basis.specs.Choice.{when, ◌and◌}
 use Rattle.basis.proofs.Choices.{when_true}
+use Rattle.std.specs.Prelude.{Result, Ok, Option, None}
+use Rattle.refusal.specs.declared.Refusal.{Refusal}
+use Rattle.perform.specs.declared.price.Performed.{Performed}
 use Rattle.room.specs.Room.{room_of}
 use Rattle.perform.specs.Settings.{sound_of as settings_sound}
 use Rattle.perform.specs.declared.settings.Settings.{Settings}
@@ -18,8 +21,6 @@ use Rattle.std.proofs.Common.{Ok}
 use Rattle.machine.specs.Line.{line_of}
 use Rattle.machine.specs.Sound.{sound_of as run_sound}
 use Rattle.machine.specs.Step.{ready_of, started_of, step_of as run_step, after_run, said_run}
-use Rattle.machine.specs.declared.Answer.{Answer}
-use Rattle.machine.specs.declared.Answer.TheVariants.{Idle}
 use Rattle.machine.specs.declared.Run.{Run}
 use Rattle.machine.specs.declared.Stepped.{Stepped as RunStepped}
 use Rattle.machine.proofs.Follows.{started_busy}
@@ -43,11 +44,11 @@ rest_run zero room r sound none = refl
 rest_run (suc n) room r sound none =
     ap (λ (x : RunStepped). after_run n room x.run) (step_ready room r sound none) ∙ rest_run n room r sound none
 
-rest_said_lem : (n : ℕ) (room : List ℕ) (r : Run) → run_sound room r ≡ true → r.len ≡ 0 → said_run n room r ≡ replicate n Idle
+rest_said_lem : (n : ℕ) (room : List ℕ) (r : Run) → run_sound room r ≡ true → r.len ≡ 0 → said_run n room r ≡ replicate n (Ok None)
 rest_said_lem zero room r sound none = refl
 rest_said_lem (suc n) room r sound none =
     ap (λ (x : RunStepped). x.answer ∷ said_run n room x.run) (step_ready room r sound none)
-    ∙ ap (λ (xs : List Answer). Idle ∷ xs) (rest_said_lem n room r sound none)
+    ∙ ap (λ (xs : List (Result (Option Performed) Refusal)). Ok None ∷ xs) (rest_said_lem n room r sound none)
 
 -- the step of a record: the run's, and the room goes with it
 module _ (s : Sign) (g : Good s) where
@@ -90,9 +91,9 @@ steps_run (suc n) s g =
 steps_said : (n : ℕ) (s : Sign) → Good s → said_steps n s ≡ said_run n s.room s.run
 steps_said zero s g = refl
 steps_said (suc n) s g =
-    ap (λ (xs : List Answer). (step_of s).answer ∷ xs) (steps_said n (step_of s).sign (step_good s g))
+    ap (λ (xs : List (Result (Option Performed) Refusal)). (step_of s).answer ∷ xs) (steps_said n (step_of s).sign (step_good s g))
     ∙ ap (λ (r : Stepped). r.answer ∷ said_run n r.sign.room r.sign.run) (sound_steps s g.sound)
-    ∙ ap (λ (xs : List Answer). (run_step s.room s.run).answer ∷ xs) (room_said s g n)
+    ∙ ap (λ (xs : List (Result (Option Performed) Refusal)). (run_step s.room s.run).answer ∷ xs) (room_said s g n)
 
 -- steps keep a record sound
 pub steps_good : (n : ℕ) (s : Sign) → Good s → Good (after_steps n s)

@@ -1,11 +1,11 @@
 -- What may happen to a record between power-on and power-off: steps, and bytes off the line, in any order.
 -- The driver's wish: a line that has started runs to its end, once. J4, J5, J8, J13 and N0 say what changes nothing, J10
 -- and J14 what changes the completed IDs.
-use Rattle.std.specs.Prelude.{ℕ, zero, suc, List, [], ◌∷◌, ◌≡◌, Bool, true, false, Ok, Result, Err}
+use Rattle.std.specs.Prelude.{ℕ, zero, suc, List, [], ◌∷◌, ◌≡◌, Bool, true, false, Ok, Result, Err, Option}
+use Rattle.perform.specs.declared.price.Performed.{Performed}
 use Rattle.refusal.specs.declared.Refusal.{Refusal}
 use Rattle.reader.specs.Read.{read_of}
 use Rattle.reader.specs.declared.read.Packet.TheVariants.{Reset as ResetRead}
-use Rattle.machine.specs.declared.Answer.{Answer}
 use Rattle.sign.specs.Receive.{receive_of}
 use Rattle.sign.specs.Step.{step_of}
 use Rattle.sign.specs.declared.Sign.{Sign}
@@ -41,7 +41,7 @@ after_events mid [] s = s
 after_events mid (step ∷ es) s = after_events mid es (step_of s).sign
 after_events mid (bytes b ∷ es) s = after_events mid es (receive_of s mid b).sign
 
-abbrev pub said_events : ℕ → List Event → Sign → List Answer
+abbrev pub said_events : ℕ → List Event → Sign → List (Result (Option Performed) Refusal)
 said_events mid [] s = []
 said_events mid (step ∷ es) s = (step_of s).answer ∷ said_events mid es (step_of s).sign
 said_events mid (bytes b ∷ es) s = said_events mid es (receive_of s mid b).sign
@@ -51,7 +51,7 @@ abbrev pub after_steps : ℕ → Sign → Sign
 after_steps zero s = s
 after_steps (suc n) s = after_steps n (step_of s).sign
 
-abbrev pub said_steps : ℕ → Sign → List Answer
+abbrev pub said_steps : ℕ → Sign → List (Result (Option Performed) Refusal)
 said_steps zero s = []
 said_steps (suc n) s = (step_of s).answer ∷ said_steps n (step_of s).sign
 

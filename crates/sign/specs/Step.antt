@@ -1,10 +1,10 @@
 -- One step of the record: 16 for an unsound one, which stays (N16); otherwise the run goes on by a step (S1, S12) and
 -- all else stays, but that the room is emptied where the body has run to its end (S11, R5).
-use Rattle.std.specs.Prelude.{ℕ, List, not, eqb, replicate}
+use Rattle.std.specs.Prelude.{ℕ, List, not, eqb, replicate, Err}
 use Rattle.basis.specs.Choice.{when, ◌and◌}
+use Rattle.refusal.specs.declared.Refusal.TheVariants.{Unsound}
 use Rattle.machine.specs.Step.{step_of as run_step}
 use Rattle.machine.specs.declared.Run.{Run}
-use Rattle.machine.specs.declared.Answer.TheVariants.{Refused}
 use Rattle.machine.specs.declared.Stepped.{Stepped as RunStepped}
 use Rattle.sign.specs.Sound.{sound_of}
 use Rattle.sign.specs.declared.Sign.{Sign}
@@ -22,4 +22,4 @@ abbrev pub stepped_of : Sign → RunStepped → Stepped
 stepped_of s went = record { sign = runs_of s went.run; answer = went.answer }
 
 unfoldable pub step_of : Sign → Stepped
-step_of s = when (sound_of s) (stepped_of s (run_step s.room s.run)) (record { sign = s; answer = Refused 16 })
+step_of s = when (sound_of s) (stepped_of s (run_step s.room s.run)) (record { sign = s; answer = Err Unsound })

@@ -16,7 +16,8 @@ mod tell;
 use collect::Slots;
 use completed::Completed;
 use hear::Outcome;
-use machine::{Answer, Run};
+use machine::Run;
+use perform::Performed;
 use refusal::Refusal;
 
 // The record: completed IDs, the slots of the packets being collected, one room, and the running program with the settings. The
@@ -49,5 +50,5 @@ pub struct Cleared {
 #[derive(Clone, Copy)]
 pub struct Stepped {
     pub sign: Sign,
-    pub answer: Answer,
+    pub answer: Result<Option<Performed>, Refusal>,
 }

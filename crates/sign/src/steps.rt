@@ -5,7 +5,7 @@ ghost use Rattle.sign.specs.Step.{room_after, step_of};
 
 use crate::{Sign, Stepped};
 use hear::framed;
-use machine::Answer;
+use refusal::Refusal;
 
 // Empties the room where a body of one length has run to its end, which is a length of 0 after the step.
 fn empty(room: &mut [u8; 84], before: usize, after: usize)
@@ -32,7 +32,7 @@ impl Sign {
         if !framed(completed, slots, &room, self.run.len) {
             return Stepped {
                 sign: self,
-                answer: Answer::Refused(16),
+                answer: Err(Refusal::Unsound),
             };
         }
         let went = run.step(&room);

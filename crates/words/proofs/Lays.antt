@@ -20,7 +20,6 @@ use Rattle.refusal.specs.declared.Refusal.{Refusal}
 use Rattle.words.specs.Words.{word_of, words_of, result_of}
 use Rattle.hear.specs.Hear.{told_of}
 use Rattle.hear.specs.declared.Outcome.{Outcome}
-use Rattle.hear.specs.declared.Outcome.TheVariants.{Query, Reset, Repeat, Stored, Released}
 use Rattle.words.specs.Told.{answer_row, first_or, told_in}
 use Rattle.words.specs.Says.{outcome_of, program_of, place_of, received_bytes}
 
@@ -111,11 +110,7 @@ row_past size answer n room = sym (when_false (ltb (length answer) size) 252 n (
 
 -- an outcome that is told something is no refusal
 pub told_yes : (o : Result Outcome Refusal) → (outcome_of o ≡ 0 → ⊥) → (told_of o).number ≡ 0
-told_yes (Ok Query) h = refl
-told_yes (Ok Reset) h = refl
-told_yes (Ok Repeat) h = refl
-told_yes (Ok Stored) h = refl
-told_yes (Ok (Released v)) h = refl
+told_yes (Ok x) h = refl
 told_yes (Err e) h = absurd (h refl)
 
 -- four words, and a body copied after them

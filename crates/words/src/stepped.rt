@@ -6,9 +6,9 @@ ghost use Rattle.words.specs.Words.{words_of};
 ghost use Rattle.words.specs.Told.{answer_row, first_or, told_in};
 
 use crate::laying::lay;
-use machine::Answer;
 use perform::Performed;
 use program::Kind;
+use refusal::Refusal;
 
 // A command's kind as a number, in the order of the table in program/specs/Table.
 fn kind_code(kind: Kind) -> u64
@@ -57,7 +57,7 @@ fn lay_performed(performed: Performed, answer: &mut [u8])
 }
 
 // What a step answered: seven words, zeros where it is idle.
-pub fn tell_stepped(said: Answer, answer: &mut [u8]) -> u32
+pub fn tell_stepped(said: Result<Option<Performed>, Refusal>, answer: &mut [u8]) -> u32
     ensures result { result ≡ first_or (answer_row 28 answer.old ∷ []) (told_of said).number }
     ensures told { answer.new ≡ told_in 28 (words_of (told_of said).values) answer.old }
 {
@@ -65,14 +65,14 @@ pub fn tell_stepped(said: Answer, answer: &mut [u8]) -> u32
         return 252;
     }
     match said {
-        Answer::Did(performed) => {
+        Ok(Some(performed)) => {
             lay_performed(performed, answer);
             0
         }
-        Answer::Idle => {
+        Ok(None) => {
             lay(&[0, 0, 0, 0, 0, 0, 0], answer);
             0
         }
-        Answer::Refused(n) => n as u32,
+        Err(e) => e.number() as u32,
     }
 }

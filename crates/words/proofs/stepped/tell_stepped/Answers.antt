@@ -1,32 +1,35 @@
 -- `tell_stepped` writes the words of each answer; a refusal writes none.
 use Rattle.basis.proofs.Tests.{tests}
-use mathlib.Core.Path.{sym}
+use mathlib.Core.Path.{◌≡◌, sym, ap, ◌∙◌}
 use Rattle.basis.specs.Told.{Told}
 use Rattle.machine.specs.Step.{told_of}
-use Rattle.machine.specs.declared.Answer.TheVariants.{Did, Idle, Refused}
 use Rattle.words.specs.Words.{words_of}
 use Rattle.words.proofs.Lays.{answers, told_none}
 use borrow.Author.Rules.{rules}
+use Rattle.std.specs.Prelude.{Ok, Err, Option, Some, None}
+use Rattle.perform.specs.declared.price.Performed.{Performed}
 use Rattle.words.proofs.stepped.tell_stepped.Goals as goal
 
 pub returns-then-answer-lt28 : goal.returns-then-answer-lt28
 returns-then-answer-lt28 c = search tests
 
-pub returns-in-Did : goal.returns-in-Did
-returns-in-Did c =
+pub returns-in-Ok-Some : goal.returns-in-Ok-Some
+returns-in-Ok-Some c =
     let a = c.args in
-    let told = answers told_of (λ (t : Told). t.number) 28 a.answer.now (Did c.in-Did.performed) a.said (search rules) (sym c.in-Did.is) c.lay_performed.ensures in
+    let is : a.said ≡ Ok (Some c.in-Ok-Some.performed) = c.in-Ok-Some.is ∙ ap (λ (o : Option Performed). Ok o) (rw c.in-Ok-Some.is at c.in-Ok-Some.field-0-is) in
+    let told = answers told_of (λ (t : Told). t.number) 28 a.answer.now (Ok (Some c.in-Ok-Some.performed)) a.said (search rules) (sym is) c.lay_performed.ensures in
     record { result = told.0; told = told.1 }
 
-pub returns-in-Idle : goal.returns-in-Idle
-returns-in-Idle c =
+pub returns-in-Ok-None : goal.returns-in-Ok-None
+returns-in-Ok-None c =
     let a = c.args in
-    let told = answers told_of (λ (t : Told). t.number) 28 a.answer.now Idle a.said (search rules) (sym c.in-Idle.is) c.lay.ensures in
+    let is : a.said ≡ Ok None = c.in-Ok-None.is ∙ ap (λ (o : Option Performed). Ok o) (rw c.in-Ok-None.is at c.in-Ok-None.field-0-is) in
+    let told = answers told_of (λ (t : Told). t.number) 28 a.answer.now (Ok None) a.said (search rules) (sym is) c.lay.ensures in
     record { result = told.0; told = told.1 }
 
-pub returns-in-Refused : goal.returns-in-Refused
+pub returns-in-Err : goal.returns-in-Err
 unfolding words_of
-returns-in-Refused c =
+returns-in-Err c =
     let a = c.args in
-    let told = answers told_of (λ (t : Told). t.number) 28 a.answer.now (Refused c.in-Refused.n) a.said (search rules) (sym c.in-Refused.is) (told_none _ a.answer.now (search rules)) in
-    record { result = told.0; told = told.1 }
+    let told = answers told_of (λ (t : Told). t.number) 28 a.answer.now (Err c.in-Err.e) a.said (search rules) (sym c.in-Err.is) (told_none _ a.answer.now (search rules)) in
+    record { result = c.number.ensures ∙ told.0; told = told.1 }

@@ -8,8 +8,6 @@ use native.Mathlib.Omega.{arith}
 use lib.Dec.{eqb, leb}
 use lib.ListN.{length, get_or, take, drop, length-drop, drop_of_length-le, take-append-drop}
 use lib.Seq.{drop-cons, drop-drop}
-use Rattle.std.specs.Prelude.{not, cond}
-use Rattle.std.specs.List.{filter}
 use borrow.Author.Tests.{leb-true, le-leb, eqb-true}
 use Rattle.basis.proofs.Bytes.{drop_take}
 use Rattle.basis.specs.Choice.{when, ◌and◌, ◌or◌}
@@ -86,16 +84,14 @@ pub slots_past : (total : ℕ) (lens room : List ℕ) (i : ℕ) → length lens 
 unfolding slots_of
 slots_past total lens room i h = ap (λ (l : List ℕ). slots_of total i l (drop (14 * i) room)) (drop_of_length-le lens h)
 
--- the positions held are those of a length that isn't 0
-pub held_count : (lens : List ℕ) → length (filter (λ x. not (eqb x 0)) lens) ≡ held_of lens
+-- the positions held from one on
+pub held_next : (lens : List ℕ) (i : ℕ) → i < length lens → held_of (drop i lens) ≡ one_of (get_or lens i 0) + held_of (drop (i + 1) lens)
 unfolding held_of
-held_count [] = refl
-held_count (len ∷ lens) = go (eqb len 0) (held_count lens)
-  where
-    go : (t : Bool) → length (filter (λ x. not (eqb x 0)) lens) ≡ held_of lens
-        → length (cond (not t) (len ∷ filter (λ x. not (eqb x 0)) lens) (filter (λ x. not (eqb x 0)) lens)) ≡ when t 0 1 + held_of lens
-    go true e = omega arith
-    go false e = omega arith
+held_next lens i h = rw (add-one i, drop-cons lens i 0)
+
+pub held_past : (lens : List ℕ) (i : ℕ) → length lens ≤ i → held_of (drop i lens) ≡ 0
+unfolding held_of
+held_past lens i h = rw (drop_of_length-le lens h)
 
 pub one_most : (len : ℕ) → one_of len ≤ 1
 one_most len = go (eqb len 0)

@@ -26,7 +26,13 @@ fn rule(total: u8, position: usize, len: u8) -> bool
 pub fn held(lens: [u8; 6]) -> usize
     ensures { result ≡ held_of lens }
 {
-    lens.iter().filter(|len| **len != 0).count()
+    let mut n = 0;
+    for len in &lens {
+        if *len != 0 {
+            n += 1;
+        }
+    }
+    n
 }
 
 // Whether a slot holds zeros behind its data; a full one is not looked at.

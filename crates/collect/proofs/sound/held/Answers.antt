@@ -1,14 +1,27 @@
--- `held` counts the lengths that aren't 0.
-use mathlib.Core.Path.{◌∙◌}
-use Rattle.std.proofs.Common.{eqb, not, rules, tests}
-use Rattle.std.proofs.lemmas.Iterator.{YieldsList-from_slice}
-use Rattle.std.proofs.lemmas.Iterator.Consumers.{count_from_yields_List, YieldsList-from_filter}
-use Rattle.collect.proofs.Turns.{held_count}
+use borrow.Author.Rules.{rules}
+use Rattle.collect.proofs.Turns.{held_next, held_past}
+use lib.ListN.{length}
+use native.Mathlib.Omega.{arith}
+use mathlib.Core.Path.{◌≡◌}
+use Rattle.std.proofs.lemmas.Grind.{common_steps}
 use Rattle.collect.proofs.sound.held.Goals as goal
+
+pub overflow_add-n : goal.overflow_add-n
+overflow_add-n c =
+    let s = c.args.lens in
+    let l : length s ≡ 6 = search rules in
+    omega arith
+
+pub loop-len-preserved : goal.loop-len-preserved
+loop-len-preserved c =
+    let s = c.args.lens in
+    let l : length s ≡ 6 = search rules in
+    let i = c.loop-len.len-index in
+    let next = held_next s i (search rules) in
+    grind (arith, common_steps)
 
 pub returns : goal.returns
 returns c =
     let s = c.args.lens in
-    count_from_yields_List c.filter.result _ c.count.ensures.ran
-    (YieldsList-from_filter _ (λ x. not (eqb x 0)) (YieldsList-from_slice s cc) c.filter.ensures.closure (λ x b q k. search (rules, tests)))
-    ∙ held_count s
+    let l : length s ≡ 6 = search rules in
+    omega (arith, held_past s c.loop-len.len-index (omega arith))

@@ -11,7 +11,6 @@ use Rattle.packet.specs.Mid.{Allowed}
 use Rattle.reply.specs.Reply.{heard_of, heard_from, is_reply, is_told, status}
 use Rattle.reply.proofs.Replies.{heard_passes}
 use Rattle.reader.specs.Read.{read_of}
-use Rattle.loops.specs.Token.{get}
 use Rattle.refusal.specs.Refusal.{number_of}
 use Rattle.refusal.proofs.Names.{number_some}
 use Rattle.std.specs.Prelude.{Err}

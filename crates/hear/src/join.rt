@@ -25,8 +25,8 @@ pub(crate) fn stays(completed: Completed, slots: Slots, outcome: Result<Outcome,
 }
 
 // All packets are held: the body is released.
-fn released(completed: Completed, slots: Slots, room: &[u8]) -> Heard
-    requires { Whole (collection_of slots room.now) × (length room.now ≡ 84) }
+fn released(completed: Completed, slots: Slots, room: &[u8; 84]) -> Heard
+    requires { Whole (collection_of slots room.now) }
     ensures { left_of result room.now ≡ whole_of completed (collection_of slots room.now) }
 {
     let lens = slots.lens;
@@ -42,8 +42,8 @@ fn released(completed: Completed, slots: Slots, room: &[u8]) -> Heard
 }
 
 // Writes data to the front of a position's slot.
-fn fill(room: &mut [u8], position: usize, part: &[u8])
-    requires { (length room.old ≡ 84) × ((position < 6) × (length part.now ≤ 14)) }
+fn fill(room: &mut [u8; 84], position: usize, part: &[u8])
+    requires { (position < 6) × (length part.now ≤ 14) }
     ensures { room.new ≡ laid (take (14 * position) room.old ++ part.now) room.old }
 {
     let at = 14 * position;
@@ -88,8 +88,8 @@ fn taking(slots: Slots, room: &mut [u8; 84], id: u8, total: u8) -> Slots
 }
 
 // Whether a position's slot holds these data.
-fn holds(room: &[u8], position: usize, len: u8, part: &[u8]) -> bool
-    requires { (length room.now ≡ 84) × ((position < 6) × (len ≤ 14)) }
+fn holds(room: &[u8; 84], position: usize, len: u8, part: &[u8]) -> bool
+    requires { (position < 6) × (len ≤ 14) }
     ensures { result ≡ same_of (take len (drop (14 * position) room.now)) part.now }
 {
     let from = 14 * position;

@@ -1,14 +1,13 @@
 -- `goes_into` judges a packet by the slots: 13, a free position, or the data held there.
 use Rattle.basis.proofs.Tests.{tests}
 use mathlib.Core.Bool.{true, false}
-use mathlib.Core.Path.{◌≡◌, ap}
+use mathlib.Core.Path.{ap}
 use native.Mathlib.Omega.{arith}
 use lib.ListN.{length}
 use Rattle.collect.specs.Slots.{collection_of}
 use Rattle.hear.specs.Join.{left_of, stay_of, count_of}
 use Rattle.hear.specs.declared.Heard.{Heard}
 use Rattle.hear.proofs.Joining.{into_open, held_most_14, goes_by_lem}
-use borrow.Author.Rules.{rules}
 use Rattle.hear.proofs.join.goes_into.Goals as goal
 
 pub returns-then-slots-total : goal.returns-then-slots-total
@@ -25,8 +24,7 @@ returns-then-len-eq0 c = search (tests, c.placed.ensures)
 pub holds-requires : goal.holds-requires
 holds-requires c =
     let a = c.args in
-    let r : length a.room.now ≡ 84 = search rules in
-    (r, (omega (arith, c.requires.1.below, c.requires.1.most), held_most_14 (collection_of a.slots a.room.now) a.position c.requires.0))
+    (omega (arith, c.requires.1.below, c.requires.1.most), held_most_14 (collection_of a.slots a.room.now) a.position c.requires.0)
 
 pub returns-then-holds : goal.returns-then-holds
 returns-then-holds c =

@@ -12,10 +12,8 @@ use Rattle.hear.proofs.join.placed.Goals as goal
 
 pub fill-requires : goal.fill-requires
 fill-requires c =
-    let a = c.args in
-    let r : length a.room.now ≡ 84 = search rules in
     let o = c.requires in
-    (r, (omega (arith, o.right.below, o.right.most), o.right.few))
+    (omega (arith, o.right.below, o.right.most), o.right.few)
 
 pub returns-then-held-next : goal.returns-then-held-next
 returns-then-held-next c =
@@ -36,7 +34,7 @@ released-requires c =
     let n : Collection = record { id = a.slots.id; total = a.slots.total; lens = set a.slots.lens a.position (length a.part.now); room = x } in
     let e = stored_is k a.position a.part.now x c.fill.ensures in
     let all : n.total ≤ held_of n.lens = omega (arith, c.held.ensures, c.if-held-next.false) in
-    (stored_whole k a.position a.part.now l r c.requires n e all, search rules)
+    stored_whole k a.position a.part.now l r c.requires n e all
 
 pub returns : goal.returns
 returns c =

@@ -18,13 +18,22 @@ pub overflow_add-len : goal.overflow_add-len
 overflow_add-len c =
     let a = c.args in
     let l : length a.slots.lens ≡ 6 = search rules in
-    omega (arith, whole_len (collection_of a.slots a.room.now) l c.requires.1 c.requires.0)
+    let r : length a.room.now ≡ 84 = search rules in
+    omega (arith, whole_len (collection_of a.slots a.room.now) l r c.requires)
+
+pub shared_ref_as_front-judge : goal.shared_ref_as_front-judge
+shared_ref_as_front-judge c =
+    let a = c.args in
+    let l : length a.slots.lens ≡ 6 = search rules in
+    let r : length a.room.now ≡ 84 = search rules in
+    omega (arith, whole_len (collection_of a.slots a.room.now) l r c.requires)
 
 pub slice_bounds-judge-end : goal.slice_bounds-judge-end
 slice_bounds-judge-end c =
     let a = c.args in
     let l : length a.slots.lens ≡ 6 = search rules in
-    sym (length-take-le _ a.room.now (omega (arith, whole_len (collection_of a.slots a.room.now) l c.requires.1 c.requires.0, c.requires.1)))
+    let r : length a.room.now ≡ 84 = search rules in
+    sym (length-take-le _ a.room.now (omega (arith, whole_len (collection_of a.slots a.room.now) l r c.requires, r)))
 
 pub returns : goal.returns
 unfolding begun_of
@@ -32,8 +41,8 @@ returns c =
     let a = c.args in
     let k = collection_of a.slots a.room.now in
     let l : length a.slots.lens ≡ 6 = search rules in
-    let r = c.requires.1 in
-    let w = c.requires.0 in
+    let r : length a.room.now ≡ 84 = search rules in
+    let w = c.requires in
     let n = 14 * (a.slots.total - 1) + get_or a.slots.lens (a.slots.total - 1) 0 in
     let v = c.judge-verdict.result in
     ap (λ (s : Slots). record { outcome = Ok (Released v); completed = c.with.result; collection = collection_of s a.room.now; len = n }) c.begun.ensures

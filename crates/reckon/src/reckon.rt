@@ -25,7 +25,7 @@ pub struct Reckoned {
 }
 
 // The widths of the text of so many bytes at a place of a body, which is only measured where there is a text.
-pub(crate) fn measured(body: &[u8], place: usize, len: usize) -> Widths
+fn measured(body: &[u8], place: usize, len: usize) -> Widths
     ensures { result ≡ counted_of (widths_of (take len (drop place body.now))) }
 {
     if len == 0 {
@@ -34,8 +34,9 @@ pub(crate) fn measured(body: &[u8], place: usize, len: usize) -> Widths
     measure_at(body, place, len)
 }
 
-// The command at the place, added.
-fn added(body: &[u8], command: Command, at: Reckoned) -> Reckoned
+// The command at the place, added. Two walks call this, and without the hint it is a call in both, which costs more with each command.
+#[inline(always)]
+pub(crate) fn added(body: &[u8], command: Command, at: Reckoned) -> Reckoned
     requires { (read_of body.now at.place ≡ Ok command) × (length body.now ≤ 84) }
     ensures { result ≡ added_of (get body.now at.place) at }
 {

@@ -9,10 +9,10 @@ ghost use Rattle.loops.specs.declared.Role.TheVariants.{Close};
 ghost use Rattle.reckon.specs.Forecast.{foretold_of, walked_of};
 ghost use Rattle.reckon.specs.Reckon.{closed_of, closes_of, taken_of, summed_of, Passed, Passing};
 
-use crate::reckon::{Reckoned, later, measured};
+use crate::reckon::{Reckoned, added, later};
 use crate::{Foretold, Totals};
 use loops::{Flow, Open, Role, role_of, turned};
-use perform::{Settings, perform};
+use perform::Settings;
 use program::{Command, Kind, read_command};
 use refusal::{Fault, Refusal};
 
@@ -84,21 +84,11 @@ fn summed(body: &[u8], read: Result<Command, Fault>, flow: Flow, sums: Sums) -> 
     let Ok(command) = read else {
         return sums;
     };
-    let at = sums.at;
-    let kind = command.kind;
-    let number = command.number as u8;
-    let text = command.text;
-    let count = command.len;
-    let settings = at.settings;
-    let totals = at.totals;
-    let widths = measured(body, text, count);
-    let performed = perform(kind, number, text, count, widths, settings);
-    let here = Reckoned {
-        place: command.next,
-        settings: settings.behind(kind, number),
-        totals: totals.plus(Totals::cost(performed)),
+    let here = Sums {
+        at: added(body, command, sums.at),
+        ..sums
     };
-    taken(body, kind, flow, Sums { at: here, ..sums })
+    taken(body, command.kind, flow, here)
 }
 
 // What is told where no command is left.

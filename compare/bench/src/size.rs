@@ -5,15 +5,18 @@ use std::process::Command;
 /// The object of the library itself starts with this name.
 pub const LIBRARY: &str = "cabi";
 
-/// The section of a table that the compiler made of a `match` starts with this name.
-const TABLE: &str = ".rodata..Lswitch.table";
+/// The section of a table that the compiler made of a `match` starts with this name, and goes on with that of the function that asks it.
+const TABLE: &str = ".rodata..Lswitch.table.";
+
+/// The function that asks for the kinds of bytes.
+const READER: &str = "program::reader::read_command";
 
 /// What an object of the archive brings into a program.
 pub struct Object {
     pub name: String,
     pub code: u64,
     pub constants: u64,
-    /// Those of the constants that are tables which the compiler made of a `match`, one by one.
+    /// Those of the constants that are tables which the compiler made of a `match` in the reader of commands, one by one.
     pub tables: Vec<u64>,
     /// Bytes that need memory of their own: data and zeros.
     pub memory: u64,
@@ -46,7 +49,7 @@ fn add(object: Option<&mut Object>, section: &str, bytes: u64) {
         object.code += bytes;
     } else if section.starts_with(".rodata") {
         object.constants += bytes;
-        if section.starts_with(TABLE) {
+        if section.strip_prefix(TABLE).is_some_and(|function| function.starts_with(READER)) {
             object.tables.push(bytes);
         }
     } else if section.starts_with(".data") || section.starts_with(".bss") {
@@ -54,7 +57,7 @@ fn add(object: Option<&mut Object>, section: &str, bytes: u64) {
     }
 }
 
-/// The bytes of the table of byte kinds, which is the only table made of a `match`.
+/// The bytes of the table of byte kinds, which is the only table made of a `match` in the reader of commands.
 pub fn kinds(objects: &[Object]) -> Result<u64, String> {
     let tables: Vec<u64> = objects.iter().flat_map(|object| object.tables.iter().copied()).collect();
     match tables[..] {

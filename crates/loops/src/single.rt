@@ -13,19 +13,19 @@ use refusal::{Fault, Refusal};
 fn structured(command: Command, place: usize, flow: Flow) -> Result<Turn, Fault>
     ensures { result ≡ turn_of (moved place command.next (structure_of (role_of command.kind) (room_of flow) (here_of place command) (opens_of flow))) }
 {
-    let kind = command.kind;
     let next = command.next;
     let here = Open {
         caret: place,
         behind: next,
         number: command.number,
     };
-    let wrong = Fault {
-        refusal: Refusal::WrongLoop,
-        place,
+    let Some(flow) = rule(flow, role(command.kind), here) else {
+        return Err(Fault {
+            refusal: Refusal::WrongLoop,
+            place,
+        });
     };
-    let then = rule(flow, role(kind), here).ok_or(wrong)?;
-    Ok(Turn { next, flow: then })
+    Ok(Turn { next, flow })
 }
 
 // What was read at a place, where judging stands so.

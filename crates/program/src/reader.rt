@@ -63,10 +63,10 @@ pub fn read_command(body: &[u8], place: usize) -> Result<Command, Fault>
     }
     let x = byte_at(body, place + 1);
     let y = byte_at(body, place + 2);
-    let found = row(x, y).ok_or(wrong)?;
+    let Some(found) = row(x, y) else {
+        return Err(wrong);
+    };
     let from = place + found.letters;
-    let kind = found.kind;
-    let form = found.form;
-    let read = parameter(body, place, from, form)?;
-    Ok(command(kind, form, from, read))
+    let read = parameter(body, place, from, found.form)?;
+    Ok(command(found.kind, found.form, from, read))
 }

@@ -176,6 +176,9 @@ use Rattle.units.proofs.MillisAmount.of.Reads as units_millis_of_reads
 use Rattle.units.specs.contracts.MillisAmount.number as units_millis_number
 use Rattle.units.proofs.MillisAmount.number.Kinds as units_millis_number_kinds
 use Rattle.units.proofs.MillisAmount.number.Reads as units_millis_number_reads
+use Rattle.refusal.specs.contracts.Refusal.number as refusal_refusal_number
+use Rattle.refusal.proofs.Refusal.number.Kinds as refusal_refusal_number_kinds
+use Rattle.refusal.proofs.Refusal.number.Reads as refusal_refusal_number_reads
 use Rattle.units.specs.contracts.Millis.tenths as units_millis_tenths
 use Rattle.units.proofs.Millis.tenths.Kinds as units_millis_tenths_kinds
 use Rattle.units.proofs.Millis.tenths.Reads as units_millis_tenths_reads
@@ -479,6 +482,10 @@ one_units_millis_number κs a r r' s s' h h' = one h h'
 pub one_units_millis_tenths : (κs : Lifetimes.Lfts 0) (a : World.ArgsD units_millis_tenths.signature κs) (r r' : World.ResD units_millis_tenths.signature κs)
     (s s' : Clauses.AtExit (K.ended_of 0 units_millis_tenths_kinds.ps units_millis_tenths_kinds.r) κs) → units_millis_tenths_reads.Post κs a r s → units_millis_tenths_reads.Post κs a r' s' → r.0 ≡ r'.0
 one_units_millis_tenths κs a r r' s s' h h' = one h h'
+
+pub one_refusal_refusal_number : (κs : Lifetimes.Lfts 0) (a : World.ArgsD refusal_refusal_number.signature κs) (r r' : World.ResD refusal_refusal_number.signature κs)
+    (s s' : Clauses.AtExit (K.ended_of 0 refusal_refusal_number_kinds.ps refusal_refusal_number_kinds.r) κs) → refusal_refusal_number_reads.Post κs a r s → refusal_refusal_number_reads.Post κs a r' s' → r ≡ r'
+one_refusal_refusal_number κs a r r' s s' h h' = one h h'
 
 pub one_sign_sign_power_on : (κs : Lifetimes.Lfts 0) (a : World.ArgsD sign_sign_power_on.signature κs) (r r' : World.ResD sign_sign_power_on.signature κs)
     (s s' : Clauses.AtExit (K.ended_of 0 sign_sign_power_on_kinds.ps sign_sign_power_on_kinds.r) κs) → sign_sign_power_on_reads.Post κs a r s → sign_sign_power_on_reads.Post κs a r' s' → r ≡ r'

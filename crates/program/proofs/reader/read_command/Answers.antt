@@ -3,14 +3,10 @@
 use Prim.Native.Nat.{◌+◌}
 use mathlib.Core.Path.{sym, ap, ◌∙◌}
 use lib.ListN.{drop}
-use Rattle.std.proofs.Common.{Option, Ok, Err, None}
+use Rattle.std.proofs.Common.{Ok, Err, None}
 use Rattle.std.proofs.lemmas.Result.{err_from_is_err_and}
-use Rattle.std.specs.Option.{ok_or}
 use Rattle.params.specs.Bytes.{param_of}
 use Rattle.program.specs.Command.{made_of, row_of, read_of}
-use Rattle.program.specs.declared.Row.{Row}
-use Rattle.refusal.specs.Refusal.{fault}
-use Rattle.refusal.proofs.Names.{err_one}
 use Rattle.program.proofs.Rows.{row_behind, row_no_caret, read_row}
 use Rattle.program.proofs.Parameters.{ends_after}
 use Rattle.program.proofs.reader.read_command.Goals as goal
@@ -25,32 +21,28 @@ returns-then-body-place c =
       | then-body-place-via-else-body-place+then-body-place-ne-CARET w ↦ sym (ap (row_of a.body.now a.place) (row_no_caret a.body.now a.place w.if-body-place.false w.if-body-place-ne-CARET.true))
     ]
 
-pub returns-in_err-found : goal.returns-in_err-found
-returns-in_err-found c =
+pub returns-in_default : goal.returns-in_default
+returns-in_default c =
     let a = c.args in
-    let p = err_from_is_err_and c.from_residual.result c.from_residual.ensures.1 in
-    let none = c.in_err-found.ensures.ok_part in
-    let same = err_one (c.in_err-found.ensures.value ∙ ap (λ (o : Option Row). ok_or o (fault 22 a.place)) none) in
-    p.1 ∙ ap Err (p.2 ∙ same)
-    ∙ sym (read_row a.body.now a.place c.byte_at-x.result c.byte_at-y.result c.row.result c.if-body-place.false c.if-body-place-ne-CARET.false c.byte_at-x.ensures c.byte_at-y.ensures c.row.ensures None none)
+    sym (read_row a.body.now a.place c.byte_at-x.result c.byte_at-y.result c.row.result c.if-body-place.false c.if-body-place-ne-CARET.false c.byte_at-x.ensures c.byte_at-y.ensures c.row.ensures None c.in_default.is)
 
 pub returns-in_err-read : goal.returns-in_err-read
 returns-in_err-read c =
     let a = c.args in
-    let p = err_from_is_err_and c.from_residual-in_err-read.result c.from_residual-in_err-read.ensures.1 in
+    let p = err_from_is_err_and c.from_residual.result c.from_residual.ensures.1 in
     p.1 ∙ ap Err p.2
     ∙ ap (made_of _ _ _) c.in_err-read.ensures
-    ∙ sym (read_row a.body.now a.place c.byte_at-x.result c.byte_at-y.result c.row.result c.if-body-place.false c.if-body-place-ne-CARET.false c.byte_at-x.ensures c.byte_at-y.ensures c.row.ensures _ c.in_ok-found.ensures.ok_part)
+    ∙ sym (read_row a.body.now a.place c.byte_at-x.result c.byte_at-y.result c.row.result c.if-body-place.false c.if-body-place-ne-CARET.false c.byte_at-x.ensures c.byte_at-y.ensures c.row.ensures _ c.in-Some.is)
 
 pub command-requires : goal.command-requires
 command-requires c =
     let a = c.args in
-    let at = a.place + c.in_ok-found.found.letters in
-    ends_after c.in_ok-found.found.form a.place at (param_of (drop at a.body.now)) c.in_ok-read.read (sym c.in_ok-read.ensures)
+    let at = a.place + c.in-Some.found.letters in
+    ends_after c.in-Some.found.form a.place at (param_of (drop at a.body.now)) c.in_ok-read.read (sym c.in_ok-read.ensures)
 
 pub returns : goal.returns
 returns c =
     let a = c.args in
     ap Ok c.command.ensures
     ∙ ap (made_of _ _ _) c.in_ok-read.ensures
-    ∙ sym (read_row a.body.now a.place c.byte_at-x.result c.byte_at-y.result c.row.result c.if-body-place.false c.if-body-place-ne-CARET.false c.byte_at-x.ensures c.byte_at-y.ensures c.row.ensures _ c.in_ok-found.ensures.ok_part)
+    ∙ sym (read_row a.body.now a.place c.byte_at-x.result c.byte_at-y.result c.row.result c.if-body-place.false c.if-body-place-ne-CARET.false c.byte_at-x.ensures c.byte_at-y.ensures c.row.ensures _ c.in-Some.is)

@@ -12,20 +12,6 @@ use Rattle.words.specs.Says.{received_bytes}
 use Rattle.cabi.proofs.Lays.{mid_is, mid_short, mid_not_0, unsized, too_short, refused_went, told_went, ill_receives, forbidden_19, quiet_receive}
 use Rattle.cabi.proofs.unit.yd_receive.Goals as goal
 
-pub returns-then-image-ne-SIZE : goal.returns-then-image-ne-SIZE
-returns-then-image-ne-SIZE c =
-    let a = c.args in
-    let y = receive_of (record_of a.image.now) a.mid a.bytes.now in
-    let told = unsized (mid_row a.mid ∷ answer_row 100 a.answer.now ∷ []) a.image.now a.answer.now (told_of y.outcome).number (received_bytes y.outcome y.body y.len) (image_of y.sign) c.if-image-ne-SIZE.true in
-    record { result = told.0; kept = told.1.0; told = told.1.1 }
-
-pub returns-then-answer-lt100 : goal.returns-then-answer-lt100
-returns-then-answer-lt100 c =
-    let a = c.args in
-    let y = receive_of (record_of a.image.now) a.mid a.bytes.now in
-    let told = too_short (mid_row a.mid ∷ answer_row 100 a.answer.now ∷ []) a.image.now a.answer.now (told_of y.outcome).number (received_bytes y.outcome y.body y.len) (image_of y.sign) c.load-sign.result c.short.result c.short_for.result c.if-image-ne-SIZE.false (mid_short a.mid 100 a.answer.now _ c.if-answer-lt100.true ∙ sym c.short_for.ensures) (λ z. mid_not_0 a.mid (sym c.short_for.ensures ∙ z)) c.load-sign.ensures c.short.ensures in
-    record { result = told.0; kept = told.1.0; told = told.1.1 }
-
 pub returns-then-told-ne0 : goal.returns-then-told-ne0
 returns-then-told-ne0 c =
     let a = c.args in

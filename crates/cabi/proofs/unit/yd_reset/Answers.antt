@@ -8,9 +8,6 @@ use Rattle.sign.specs.declared.Cleared.{Cleared}
 use Rattle.cabi.proofs.Lays.{no_answer, went_on, ill_resets}
 use Rattle.cabi.proofs.unit.yd_reset.Goals as goal
 
-pub returns-then-image-ne-SIZE : goal.returns-then-image-ne-SIZE
-returns-then-image-ne-SIZE c = search tests
-
 pub returns-then-told-ne0 : goal.returns-then-told-ne0
 returns-then-told-ne0 c =
     let i = c.args.image.now in

@@ -11,20 +11,6 @@ use Rattle.cabi.proofs.Lays.{answer_is, answer_short, unsized, too_short, refuse
 use native.Mathlib.Omega.{arith}
 use Rattle.cabi.proofs.unit.yd_step.Goals as goal
 
-pub returns-then-image-ne-SIZE : goal.returns-then-image-ne-SIZE
-returns-then-image-ne-SIZE c =
-    let a = c.args in
-    let y = step_of (record_of a.image.now) in
-    let told = unsized (answer_row 28 a.answer.now ∷ []) a.image.now a.answer.now (told_of y.answer).number (words_of (told_of y.answer).values) (image_of y.sign) c.if-image-ne-SIZE.true in
-    record { result = told.0; kept = told.1.0; told = told.1.1 }
-
-pub returns-then-answer-lt28 : goal.returns-then-answer-lt28
-returns-then-answer-lt28 c =
-    let a = c.args in
-    let y = step_of (record_of a.image.now) in
-    let told = too_short (answer_row 28 a.answer.now ∷ []) a.image.now a.answer.now (told_of y.answer).number (words_of (told_of y.answer).values) (image_of y.sign) c.load-sign.result c.short.result 252 c.if-image-ne-SIZE.false (answer_short 28 a.answer.now _ c.if-answer-lt28.true) (λ z. omega arith) c.load-sign.ensures c.short.ensures in
-    record { result = told.0; kept = told.1.0; told = told.1.1 }
-
 pub returns-then-told-ne0 : goal.returns-then-told-ne0
 returns-then-told-ne0 c =
     let a = c.args in

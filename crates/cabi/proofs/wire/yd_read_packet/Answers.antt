@@ -9,11 +9,6 @@ use Rattle.reader.proofs.Guard.{read_stops}
 use Rattle.cabi.proofs.Lays.{reader_short, reader_told}
 use Rattle.cabi.proofs.wire.yd_read_packet.Goals as goal
 
-pub returns-then-answer-lt20 : goal.returns-then-answer-lt20
-returns-then-answer-lt20 c =
-    let told = reader_short _ 20 _ _ _ c.if-answer-lt20.true c.short_for.ensures in
-    record { result = told.0; told = told.1 }
-
 pub returns : goal.returns
 returns c =
     let a = c.args in

@@ -9,11 +9,6 @@ use Rattle.reply.proofs.Replies.{heard_stops}
 use Rattle.cabi.proofs.Lays.{reader_short, reader_told}
 use Rattle.cabi.proofs.wire.yd_read_reply.Goals as goal
 
-pub returns-then-answer-lt12 : goal.returns-then-answer-lt12
-returns-then-answer-lt12 c =
-    let told = reader_short _ 12 _ _ _ c.if-answer-lt12.true c.short_for.ensures in
-    record { result = told.0; told = told.1 }
-
 pub returns : goal.returns
 returns c =
     let a = c.args in

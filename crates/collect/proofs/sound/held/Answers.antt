@@ -6,12 +6,6 @@ use mathlib.Core.Path.{◌≡◌}
 use Rattle.std.proofs.lemmas.Grind.{common_steps}
 use Rattle.collect.proofs.sound.held.Goals as goal
 
-pub overflow_add-n : goal.overflow_add-n
-overflow_add-n c =
-    let s = c.args.lens in
-    let l : length s ≡ 6 = search rules in
-    omega arith
-
 pub loop-len-preserved : goal.loop-len-preserved
 loop-len-preserved c =
     let s = c.args.lens in

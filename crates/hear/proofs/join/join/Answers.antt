@@ -7,12 +7,6 @@ use Rattle.hear.proofs.Joining.{taking_slots, join_into}
 use borrow.Author.Rules.{rules}
 use Rattle.hear.proofs.join.join.Goals as goal
 
-pub returns-then-has : goal.returns-then-has
-returns-then-has c = search (tests, sym c.has.ensures ∙ c.if-has.true, c.stays.ensures)
-
-pub returns-then-len-ne0 : goal.returns-then-len-ne0
-returns-then-len-ne0 c = search (tests, sym c.has.ensures ∙ c.if-has.false, c.stays-then-len-ne0.ensures)
-
 pub goes_into-requires : goal.goes_into-requires
 goes_into-requires c =
     let a = c.args in

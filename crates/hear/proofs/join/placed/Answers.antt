@@ -10,11 +10,6 @@ use Rattle.hear.proofs.Places.{stored_is, stored_whole, counted_less, counted_fu
 use borrow.Author.Rules.{rules}
 use Rattle.hear.proofs.join.placed.Goals as goal
 
-pub fill-requires : goal.fill-requires
-fill-requires c =
-    let o = c.requires in
-    (omega (arith, o.right.below, o.right.most), o.right.few)
-
 pub returns-then-held-next : goal.returns-then-held-next
 returns-then-held-next c =
     let a = c.args in

@@ -14,26 +14,12 @@ use borrow.Author.Rules.{rules}
 use Rattle.std.specs.Prelude.{Ok}
 use Rattle.hear.proofs.join.released.Goals as goal
 
-pub overflow_add-len : goal.overflow_add-len
-overflow_add-len c =
-    let a = c.args in
-    let l : length a.slots.lens ≡ 6 = search rules in
-    let r : length a.room.now ≡ 84 = search rules in
-    omega (arith, whole_len (collection_of a.slots a.room.now) l r c.requires)
-
 pub shared_ref_as_front-judge : goal.shared_ref_as_front-judge
 shared_ref_as_front-judge c =
     let a = c.args in
     let l : length a.slots.lens ≡ 6 = search rules in
     let r : length a.room.now ≡ 84 = search rules in
     omega (arith, whole_len (collection_of a.slots a.room.now) l r c.requires)
-
-pub slice_bounds-judge-end : goal.slice_bounds-judge-end
-slice_bounds-judge-end c =
-    let a = c.args in
-    let l : length a.slots.lens ≡ 6 = search rules in
-    let r : length a.room.now ≡ 84 = search rules in
-    sym (length-take-le _ a.room.now (omega (arith, whole_len (collection_of a.slots a.room.now) l r c.requires, r)))
 
 pub returns : goal.returns
 unfolding begun_of

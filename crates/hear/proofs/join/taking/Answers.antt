@@ -10,6 +10,3 @@ returns-then-slots-eq0 c = search (tests, c.begun.ensures)
 pub returns-then-slots-id : goal.returns-then-slots-id
 unfolding begun_of
 returns-then-slots-id c = search (tests, c.begun-then-slots-id.ensures)
-
-pub returns : goal.returns
-returns c = search tests

@@ -17,9 +17,6 @@ use Rattle.judge.proofs.Turns.{place_grows, on_stop, on_next, on_end, found_here
 use Rattle.judge.proofs.walk.walk.Goals as goal
 use Rattle.judge.proofs.walk.walk.Goals.{then-at-place, else-at-place}
 
-pub loop-at-init : goal.loop-at-init
-loop-at-init c = (refl, (refl, λ h. absurd (h refl)))
-
 pub returns-in-Err : goal.returns-in-Err
 returns-in-Err c =
     let a = c.args in
@@ -59,19 +56,3 @@ loop-at-preserved c =
         )
       ],
     )
-
-pub returns : goal.returns
-returns c =
-    let a = c.args in
-    let b = a.body.now in
-    let l = c.loop-at in
-    let h = c.loop-at-test.false in
-    let o = c.over.ensures in
-    let end = sym (on_end b l.at l.flow h) ∙ l.invariant.0 in
-    record {
-      judged = o
-          ∙ ap (λ (v : Verdict). walked_of v l.found l.here) end
-          ∙ ap (λ (s : Standing). walked_of (commands_of b) s l.here) (found_all b a.place l.at l.flow l.found _ h l.invariant.1.0)
-          ∙ ap (walked_of (commands_of b) (stand_at a.place (tokens_of b 0) 1 0 false [])) (sym (ap (λ (w : Walked). w.read) o));
-      heard = λ z. ap (λ (w : Walked). w.read) o ∙ l.invariant.1.1 (λ u. z (ap (λ (w : Walked). w.found) o ∙ accepted_nowhere (end_of (ended_of l.flow) (opens_of l.flow)) l.found u));
-    }

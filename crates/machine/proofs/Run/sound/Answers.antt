@@ -24,12 +24,6 @@ returns-then-not-filled c =
     let set = sym c.sound.ensures ∙ c.if-not-sound.false in
     sym (unfilled a.room.now a.self set c.if-len-eq0.false (sym c.filled.ensures ∙ c.if-not-filled.true))
 
-pub slice_bounds-stand-end : goal.slice_bounds-stand-end
-slice_bounds-stand-end c =
-    let a = c.args in
-    let full = sym c.filled.ensures ∙ c.if-not-filled.false in
-    sym (length-take-le a.self.len a.room.now (filled_fits a.room.now a.self.len full))
-
 pub returns : goal.returns
 returns c =
     let a = c.args in

@@ -39,12 +39,6 @@ returns-then-not-filled c =
     c.unsound-then-not-filled.ensures
     ∙ sym (step_unsound a.room.now a.self (unfilled a.room.now a.self set c.if-len-eq0.false bare))
 
-pub slice_bounds-body-end : goal.slice_bounds-body-end
-slice_bounds-body-end c =
-    let a = c.args in
-    let full = sym c.filled.ensures ∙ c.if-not-filled.false in
-    sym (length-take-le a.self.len a.room.now (filled_fits a.room.now a.self.len full))
-
 pub returns-then-not-held : goal.returns-then-not-held
 returns-then-not-held c =
     let a = c.args in
@@ -54,13 +48,6 @@ returns-then-not-held c =
     let found = found_is (stand_of (body_of a.room.now a.self) a.self.place) (read_of (body_of a.room.now a.self) a.self.place) _ (sym c.find.ensures ∙ c.in-Some.is) in
     let held = ap (λ (x : Standing). held_of x a.self.inner) found.0 ∙ sym c.held.ensures ∙ c.if-not-held.true in
     c.unsound-then-not-held.ensures ∙ sym (step_unsound a.room.now a.self (running a.room.now a.self set busy full ∙ held))
-
-pub run-requires : goal.run-requires
-run-requires c =
-    let a = c.args in
-    let found = found_is (stand_of (body_of a.room.now a.self) a.self.place) (read_of (body_of a.room.now a.self) a.self.place) _ (sym c.find.ensures ∙ c.in-Some.is) in
-    let held = ap (λ (x : Standing). held_of x a.self.inner) found.0 ∙ sym c.held.ensures ∙ c.if-not-held.false in
-    (held, found.1)
 
 pub returns-in_default : goal.returns-in_default
 returns-in_default c =

@@ -3,9 +3,6 @@ use Rattle.std.proofs.Common.{ℕ, ◌-◌, ◌%◌, ap, ◌∙◌, arith, lengt
 use Rattle.packet.proofs.Laying.{seal_lays}
 use Rattle.packet.proofs.write.seal.Goals as goal
 
-pub bounds-out-at-2 : goal.bounds-out-at-2
-bounds-out-at-2 c = simp length-set (omega arith)
-
 pub returns : goal.returns
 returns c =
     let a = c.args in

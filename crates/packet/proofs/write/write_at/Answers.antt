@@ -4,18 +4,6 @@ use Rattle.basis.proofs.Tests.{tests}
 use Rattle.packet.proofs.Writing.{packet_refused, packet_wrote}
 use Rattle.packet.proofs.write.write_at.Goals as goal
 
-pub returns-then-n-eq0 : goal.returns-then-n-eq0
-returns-then-n-eq0 c = search tests
-
-pub returns-then-n-gt84 : goal.returns-then-n-gt84
-returns-then-n-gt84 c = search tests
-
-pub returns-then-id-gt63 : goal.returns-then-id-gt63
-returns-then-id-gt63 c = search tests
-
-pub returns-then-total-at : goal.returns-then-total-at
-returns-then-total-at c = search tests
-
 pub returns-then-out-len : goal.returns-then-out-len
 returns-then-out-len c =
     let a = c.args in

@@ -6,9 +6,6 @@ use Rattle.packet.proofs.Guards.{guard_refused, guard_passed}
 use Rattle.packet.proofs.Writing.{special_wrote}
 use Rattle.packet.proofs.write.write_special.Goals as goal
 
-pub returns-then-forbidden : goal.returns-then-forbidden
-returns-then-forbidden c = guard_refused _ _ _ _ (sym c.forbidden.ensures ∙ c.if-forbidden.true)
-
 pub returns-then-out-lt7 : goal.returns-then-out-lt7
 unfolding packet_of
 returns-then-out-lt7 c = search (tests, sym c.forbidden.ensures ∙ c.if-forbidden.false)

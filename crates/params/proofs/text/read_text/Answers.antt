@@ -11,16 +11,6 @@ use Rattle.params.proofs.Pieces.{kind_there, piece_goes, text_piece}
 use Rattle.params.proofs.text.read_text.Goals as goal
 use Rattle.std.proofs.Common.{Err}
 
-pub returns-then-x-eq-CARET : goal.returns-then-x-eq-CARET
-returns-then-x-eq-CARET c =
-    let l = c.loop-from in
-    text_end c.args.body.now 0 0 l.at c.byte_at-x.result c.byte_at-x.ensures c.if-x-eq-CARET.true ∙ l.invariant
-
-pub wrong-requires : goal.wrong-requires
-wrong-requires c =
-    let b = c.args.body.now in
-    (within_body b c.loop-from.at (λ k. c.if-x-eq-CARET.false (c.byte_at-x.ensures ∙ k)), kind_there c.byte_at-x.result (get_or b c.loop-from.at caret) c.kind_of-kind.result c.kind_of-kind.ensures c.byte_at-x.ensures)
-
 pub returns-in-Some : goal.returns-in-Some
 returns-in-Some c =
     let l = c.loop-from in
@@ -30,20 +20,6 @@ returns-in-Some c =
     ap (λ (e : Refusal). Err (record { refusal = e; place = l.at })) (sym n.1)
     ∙ text_bad b 0 0 l.at x _ refl (λ k. c.if-x-eq-CARET.false (c.byte_at-x.ensures ∙ k)) refl n.0
     ∙ l.invariant
-
-pub piece_end-at-requires : goal.piece_end-at-requires
-piece_end-at-requires c =
-    let b = c.args.body.now in
-    (within_body b c.loop-from.at (λ k. c.if-x-eq-CARET.false (c.byte_at-x.ensures ∙ k)), kind_there c.byte_at-x.result (get_or b c.loop-from.at caret) c.kind_of-kind.result c.kind_of-kind.ensures c.byte_at-x.ensures)
-
-pub loop-from-smaller : goal.loop-from-smaller
-loop-from-smaller c =
-    let l = c.loop-from in
-    let b = c.args.body.now in
-    let h = within_body b l.at (λ k. c.if-x-eq-CARET.false (c.byte_at-x.ensures ∙ k)) in
-    let g = piece_goes b l.at in
-    let r = c.piece_end-at.ensures in
-    omega arith
 
 pub loop-from-preserved : goal.loop-from-preserved
 loop-from-preserved c =

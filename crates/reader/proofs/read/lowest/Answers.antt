@@ -14,9 +14,6 @@ pub returns-then-n-gt21 : goal.returns-then-n-gt21
 unfolding lowest_of
 returns-then-n-gt21 c = search tests
 
-pub overflow_cast-bytes : goal.overflow_cast-bytes
-overflow_cast-bytes c = omega (arith, c.shared_slice_known-2-1.given 2)
-
 pub returns-then-bytes-n : goal.returns-then-bytes-n
 unfolding lowest_of
 returns-then-bytes-n c = search tests

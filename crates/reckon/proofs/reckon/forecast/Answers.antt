@@ -22,9 +22,6 @@ returns-then-pace-lt1 c =
       | then-pace-lt1-via-else-pace-lt1+else-pace-gt20+else-scans-lt1+then-scans-gt6 w ↦ search tests
     ]
 
-pub walk-requires : goal.walk-requires
-walk-requires c = sym c.in_ok-front.ensures
-
 pub returns-in_err-front : goal.returns-in_err-front
 returns-in_err-front c =
     let a = c.args in

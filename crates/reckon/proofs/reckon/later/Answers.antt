@@ -7,8 +7,3 @@ pub returns-then-alike : goal.returns-then-alike
 returns-then-alike c =
     let a = c.args in
     later_same a.body.now a.start a.first c.requires.1 (sym c.alike.ensures ∙ c.if-alike.true)
-
-pub returns : goal.returns
-returns c =
-    let a = c.args in
-    later_read a.body.now a.start a.first c.pass-again.result c.requires.1 c.pass-again.ensures

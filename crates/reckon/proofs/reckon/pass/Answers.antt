@@ -9,24 +9,6 @@ use Rattle.reckon.specs.declared.reckon.Reckoned.{Reckoned}
 use Rattle.reckon.proofs.Reckons.{stands_good, pass_ends, pass_stops, pass_goes}
 use Rattle.reckon.proofs.reckon.pass.Goals as goal
 
-pub loop-command-init : goal.loop-command-init
-loop-command-init c = refl
-
-pub returns : goal.returns
-returns c =
-    let b = c.args.body.now in
-    let l = c.loop-command in
-    let e = sym c.read_command.ensures ∙ c.in_default.is in
-    sym (pass_ends b l.at _ e) ∙ l.invariant
-
-pub added-at-requires : goal.added-at-requires
-added-at-requires c =
-    let b = c.args.body.now in
-    let l = c.loop-command in
-    let d = c.in-Ok.command in
-    let e = sym c.read_command.ensures ∙ c.in-Ok.is in
-    (e, c.requires)
-
 pub returns-then-not-plain : goal.returns-then-not-plain
 returns-then-not-plain c =
     let b = c.args.body.now in

@@ -5,14 +5,6 @@ use Rattle.reckon.proofs.Reckons.{pass_stops}
 use Rattle.reckon.proofs.Walks.{summed_none, summed_is}
 use Rattle.reckon.proofs.walk.summed.Goals as goal
 
-pub returns-in_default : goal.returns-in_default
-returns-in_default c =
-    let a = c.args in
-    summed_none a.body.now a.flow a.sums _ (sym c.requires.1.0 ∙ c.in_default.is)
-
-pub added-requires : goal.added-requires
-added-requires c = (sym c.requires.1.0 ∙ c.in-Ok.is, c.requires.0)
-
 pub taken-requires : goal.taken-requires
 taken-requires c =
     let a = c.args in
@@ -21,9 +13,3 @@ taken-requires c =
     let d = c.in-Ok.command in
     let e = sym c.requires.1.0 ∙ c.in-Ok.is in
     (c.requires.0, λ r l w. (c.added.ensures ∙ sym (pass_stops b s.at d e (ap plain_of r)) ∙ (c.requires.1.1 l w).0, (c.requires.1.1 l w).1))
-
-pub returns : goal.returns
-returns c =
-    let a = c.args in
-    let e = sym c.requires.1.0 ∙ c.in-Ok.is in
-    summed_is a.body.now a.flow a.sums c.in-Ok.command e _ c.taken.result c.added.ensures c.taken.ensures

@@ -27,12 +27,6 @@ returns-in_err-turn c =
     p.1 ∙ ap Err p.2
     ∙ ap (λ (v : Verdict). by_verdict v (prices_of (tree_in b).block σ) (exit_of (tree_in b).block σ)) (sym (on_stop b l.place _ l.flow c.loop-place-test.true e) ∙ l.invariant.1.0 ∙ sym (begun_front b c.requires).0)
 
-pub summed-sums-requires : goal.summed-sums-requires
-summed-sums-requires c =
-    let b = c.args.body.now in
-    let l = c.loop-place in
-    ((begun_front b c.requires).1, (c.read_command-read.ensures ∙ ap (read_of b) l.invariant.0, l.invariant.1.1.0))
-
 pub loop-place-smaller : goal.loop-place-smaller
 loop-place-smaller c =
     let b = c.args.body.now in

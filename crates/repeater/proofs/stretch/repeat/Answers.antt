@@ -11,17 +11,6 @@ returns-then-not-shows c =
     (sym c.shows.ensures ∙ c.if-not-shows.true) in
     record { bytes = told.0; block = told.1.0; offset = told.1.1 }
 
-pub overflow_add-end : goal.overflow_add-end
-overflow_add-end c =
-    let a = c.args in
-    let e = ends a.body.now a.place a.len (sym c.shows.ensures ∙ c.if-not-shows.false) in
-    search (rules, e)
-
-pub slice_bounds-result-end : goal.slice_bounds-result-end
-slice_bounds-result-end c =
-    let a = c.args in
-    ends a.body.now a.place a.len (sym c.shows.ensures ∙ c.if-not-shows.false)
-
 pub returns : goal.returns
 returns c =
     let a = c.args in

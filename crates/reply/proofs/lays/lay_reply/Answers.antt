@@ -5,9 +5,6 @@ use Rattle.packet.specs.Wire.{reply_of}
 use Rattle.reply.proofs.Laying.{reply_wrote}
 use Rattle.reply.proofs.lays.lay_reply.Goals as goal
 
-pub returns-then-not-is_last : goal.returns-then-not-is_last
-returns-then-not-is_last c = search (tests, sym c.is_last.ensures ∙ c.if-not-is_last.true)
-
 pub returns-then-out-lt8 : goal.returns-then-out-lt8
 unfolding reply_of
 returns-then-out-lt8 c = search (tests, sym c.is_last.ensures ∙ c.if-not-is_last.false)

@@ -6,11 +6,6 @@ use Rattle.sign.proofs.Sounds.{body_fits}
 use Rattle.sign.proofs.Tells.{unsound_tells, short_tells, copy_tells}
 use Rattle.sign.proofs.Sign.copy_body.Goals as goal
 
-pub returns-then-not-sound : goal.returns-then-not-sound
-returns-then-not-sound c =
-    let a = c.args in
-    unsound_tells a.self _ (body_of a.self.room a.self.run) a.out.now (sym c.sound.ensures ∙ c.if-not-sound.true)
-
 pub returns-then-out-len : goal.returns-then-out-len
 returns-then-out-len c =
     let a = c.args in

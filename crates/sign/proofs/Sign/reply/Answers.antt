@@ -5,11 +5,6 @@ use Rattle.sign.proofs.Sounds.{sound_parts}
 use mathlib.Core.Path.{sym, ◌∙◌}
 use Rattle.sign.proofs.Sign.reply.Goals as goal
 
-pub returns-then-not-sound : goal.returns-then-not-sound
-returns-then-not-sound c =
-    let a = c.args in
-    unsound_tells a.self _ (says_of a.self a.mid a.aux) a.out.now (sym c.sound.ensures ∙ c.if-not-sound.true)
-
 pub returns : goal.returns
 returns c =
     let a = c.args in

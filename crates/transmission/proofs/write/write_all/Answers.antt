@@ -8,15 +8,6 @@ use Rattle.packet.specs.Wire.{total_of, packets_of}
 use Rattle.packet.proofs.Writing.{never_refused, next_packet, transmission_refused, transmission_wrote}
 use Rattle.transmission.proofs.write.write_all.Goals as goal
 
-pub returns-then-n-eq0 : goal.returns-then-n-eq0
-returns-then-n-eq0 c = search tests
-
-pub returns-then-n-gt84 : goal.returns-then-n-gt84
-returns-then-n-gt84 c = search tests
-
-pub returns-then-id-gt63 : goal.returns-then-id-gt63
-returns-then-id-gt63 c = search tests
-
 pub returns-then-out-size : goal.returns-then-out-size
 returns-then-out-size c =
     let a = c.args in

@@ -10,21 +10,6 @@ use borrow.Author.Rules.{rules}
 use Rattle.words.proofs.line.tell_forecast.Goals as goal
 use Rattle.std.proofs.Common.{Ok, Err}
 
-pub returns-then-answer-lt24 : goal.returns-then-answer-lt24
-returns-then-answer-lt24 c = search tests
-
-pub returns-in-Ok-Ends : goal.returns-in-Ok-Ends
-returns-in-Ok-Ends c =
-    let a = c.args in
-    let t = answers told_of (λ (t : Told). result_of t.number t.place) 24 a.answer.now (Ok (Ends c.in-Ok-Ends.totals c.in-Ok-Ends.pace c.in-Ok-Ends.scans)) a.foretold (search rules) (sym (c.in-Ok-Ends.is ∙ ap Ok (rw c.in-Ok-Ends.is at c.in-Ok-Ends.field-0-is))) c.lay.ensures in
-    record { result = c.result.ensures ∙ t.0; told = t.1 }
-
-pub returns-in-Ok-Endless : goal.returns-in-Ok-Endless
-returns-in-Ok-Endless c =
-    let a = c.args in
-    let t = answers told_of (λ (t : Told). result_of t.number t.place) 24 a.answer.now (Ok Endless) a.foretold (search rules) (sym (c.in-Ok-Endless.is ∙ ap Ok (rw c.in-Ok-Endless.is at c.in-Ok-Endless.field-0-is))) c.lay-in-Ok-Endless.ensures in
-    record { result = c.result-in-Ok-Endless.ensures ∙ t.0; told = t.1 }
-
 pub returns-in-Err : goal.returns-in-Err
 unfolding words_of
 returns-in-Err c =

@@ -8,9 +8,6 @@ use Rattle.std.proofs.Common.{◌≡◌, rules}
 use Rattle.words.proofs.Lays.{row_past, told_yes, received_lays, refused_lays}
 use Rattle.words.proofs.received.tell_received.Goals as goal
 
-pub returns-then-answer-lt100 : goal.returns-then-answer-lt100
-returns-then-answer-lt100 c = search tests
-
 pub returns-then-code-eq0 : goal.returns-then-code-eq0
 returns-then-code-eq0 c =
     let a = c.args in

@@ -10,23 +10,6 @@ use Rattle.std.specs.Prelude.{Ok, Err, Option, Some, None}
 use Rattle.perform.specs.declared.price.Performed.{Performed}
 use Rattle.words.proofs.stepped.tell_stepped.Goals as goal
 
-pub returns-then-answer-lt28 : goal.returns-then-answer-lt28
-returns-then-answer-lt28 c = search tests
-
-pub returns-in-Ok-Some : goal.returns-in-Ok-Some
-returns-in-Ok-Some c =
-    let a = c.args in
-    let is : a.said ≡ Ok (Some c.in-Ok-Some.performed) = c.in-Ok-Some.is ∙ ap (λ (o : Option Performed). Ok o) (rw c.in-Ok-Some.is at c.in-Ok-Some.field-0-is) in
-    let told = answers told_of (λ (t : Told). t.number) 28 a.answer.now (Ok (Some c.in-Ok-Some.performed)) a.said (search rules) (sym is) c.lay_performed.ensures in
-    record { result = told.0; told = told.1 }
-
-pub returns-in-Ok-None : goal.returns-in-Ok-None
-returns-in-Ok-None c =
-    let a = c.args in
-    let is : a.said ≡ Ok None = c.in-Ok-None.is ∙ ap (λ (o : Option Performed). Ok o) (rw c.in-Ok-None.is at c.in-Ok-None.field-0-is) in
-    let told = answers told_of (λ (t : Told). t.number) 28 a.answer.now (Ok None) a.said (search rules) (sym is) c.lay.ensures in
-    record { result = told.0; told = told.1 }
-
 pub returns-in-Err : goal.returns-in-Err
 unfolding words_of
 returns-in-Err c =

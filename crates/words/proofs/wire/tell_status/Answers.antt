@@ -9,16 +9,6 @@ use borrow.Author.Rules.{rules}
 use Rattle.std.specs.Prelude.{Ok, Err}
 use Rattle.words.proofs.wire.tell_status.Goals as goal
 
-pub returns-then-answer-lt12 : goal.returns-then-answer-lt12
-returns-then-answer-lt12 c = search tests
-
-pub returns-in-Ok : goal.returns-in-Ok
-returns-in-Ok c =
-    let a = c.args in
-    let s = c.in-Ok.field-0 in
-    let told = answers told_of (λ (t : Told). t.number) 12 a.answer.now (Ok s) a.status (search rules) (sym c.in-Ok.is) (c.lay.ensures ∙ heard_lays s.last s.busy s.sink a.answer.now) in
-    record { result = told.0; told = told.1 }
-
 pub returns-in-Err : goal.returns-in-Err
 unfolding words_of
 returns-in-Err c =

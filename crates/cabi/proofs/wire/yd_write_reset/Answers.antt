@@ -1,7 +1,0 @@
--- `yd_write_reset` has the writer's own outcomes.
-use mathlib.Core.Path.{refl}
-use Rattle.cabi.proofs.Lays.{tells}
-use Rattle.cabi.proofs.wire.yd_write_reset.Goals as goal
-
-pub returns : goal.returns
-returns c = tells (refl, (refl, tt)) c.write_reset-written.ensures c.tell_written.ensures

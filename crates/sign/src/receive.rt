@@ -42,20 +42,20 @@ impl Sign {
     fn running(self, len: usize) -> Sign
         ensures { result ≡ running_of self len }
     {
-        let settings = self.run.settings;
-        let run = start(len, settings);
-        let mut next = self;
-        next.run = run;
-        next
+        Sign {
+            run: start(len, self.run.settings),
+            ..self
+        }
     }
 
     // The room is emptied.
     fn emptied(self) -> Sign
         ensures { result ≡ emptied_of self }
     {
-        let mut next = self;
-        next.room = [0; 84];
-        next
+        Sign {
+            room: [0; 84],
+            ..self
+        }
     }
 
     // A body of this verdict runs if it was accepted, and leaves the room otherwise.
@@ -73,16 +73,11 @@ impl Sign {
         ensures { result ≡ behind_of outcome self len }
     {
         match outcome {
-            Ok(Outcome::Query) => self.stays(outcome),
             Ok(Outcome::Reset) => {
                 let settings = self.run.settings;
                 let run = rested(settings.dim, settings.bright);
-                let mut next = self;
-                next.run = run;
-                next.stays(outcome)
+                Sign { run, ..self }.stays(outcome)
             }
-            Ok(Outcome::Repeat) => self.stays(outcome),
-            Ok(Outcome::Stored) => self.stays(outcome),
             Ok(Outcome::Released(verdict)) => {
                 let body = self.room;
                 Received {
@@ -92,7 +87,7 @@ impl Sign {
                     len,
                 }
             }
-            Err(_) => self.stays(outcome),
+            _ => self.stays(outcome),
         }
     }
 
@@ -100,23 +95,24 @@ impl Sign {
     pub fn receive(self, mid: u8, bytes: &[u8]) -> Received
         ensures { result ≡ receive_of self mid bytes.now }
     {
-        let completed = self.completed;
-        let slots = self.slots;
-        let run = self.run;
         let mut room = self.room;
-        if !run.sound(&room) {
+        if !self.run.sound(&room) {
             return self.stays(Err(Refusal::Unsound));
         }
-        let heard = hear(completed, slots, self.run.len, &mut room, mid, bytes);
-        let outcome = heard.outcome;
-        let known = heard.completed;
-        let left = heard.slots;
+        let heard = hear(
+            self.completed,
+            self.slots,
+            self.run.len,
+            &mut room,
+            mid,
+            bytes,
+        );
         let next = Sign {
-            completed: known,
-            slots: left,
+            completed: heard.completed,
+            slots: heard.slots,
             room,
-            run,
+            ..self
         };
-        next.after(outcome, heard.len)
+        next.after(heard.outcome, heard.len)
     }
 }

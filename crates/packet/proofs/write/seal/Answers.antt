@@ -1,5 +1,5 @@
 -- `seal` lays 00h and the checksum behind the bytes that stand before them.
-use Rattle.std.proofs.Common.{ℕ, ◌-◌, ◌%◌, ap, ◌∙◌, arith, length-set}
+use Rattle.std.proofs.Common.{ℕ, ◌-◌, ◌%◌, ap, ◌∙◌}
 use Rattle.packet.proofs.Laying.{seal_lays}
 use Rattle.packet.proofs.write.seal.Goals as goal
 

@@ -1,6 +1,5 @@
 -- `write_at` asks 31 to 34 in turn; where none applies, its packet is written.
 use Rattle.std.proofs.Common.{refl, rules}
-use Rattle.basis.proofs.Tests.{tests}
 use Rattle.packet.proofs.Writing.{packet_refused, packet_wrote}
 use Rattle.packet.proofs.write.write_at.Goals as goal
 

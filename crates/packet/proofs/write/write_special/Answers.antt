@@ -2,7 +2,7 @@
 use Rattle.std.proofs.Common.{sym, ◌∙◌}
 use Rattle.basis.proofs.Tests.{tests}
 use Rattle.packet.specs.Wire.{packet_of}
-use Rattle.packet.proofs.Guards.{guard_refused, guard_passed}
+use Rattle.packet.proofs.Guards.{guard_passed}
 use Rattle.packet.proofs.Writing.{special_wrote}
 use Rattle.packet.proofs.write.write_special.Goals as goal
 

@@ -1,11 +1,8 @@
 use Prim.Native.Nat.{◌+◌, ◌*◌, ◌-◌}
 use native.Mathlib.Omega.{arith}
-use mathlib.Core.Path.{◌∙◌}
 use lib.ListN.{drop}
-use borrow.Author.Rules.{rules}
 use Rattle.params.specs.Bytes.{param_of}
-use Rattle.params.proofs.Places.{within_body}
-use Rattle.params.proofs.Numbers.{passed_none, number_wrong, value_grows, end_value, end_count, end_right, next_good, next_count, next_value, next_passed}
+use Rattle.params.proofs.Numbers.{number_wrong, value_grows, next_value}
 use Rattle.params.proofs.number.read_number.Goals as goal
 
 pub returns-then-greatest-value : goal.returns-then-greatest-value

@@ -1,13 +1,11 @@
 use Prim.Native.Nat.{ℕ, ◌+◌}
 use mathlib.Core.Path.{refl, sym, ap, ◌∙◌}
-use native.Mathlib.Omega.{arith}
 use lib.ListN.{get_or, drop}
 use Rattle.refusal.specs.declared.Refusal.{Refusal}
 use Rattle.params.specs.Bytes.{caret, param_of}
 use Rattle.params.specs.Text.{wrong_of, text_of}
-use Rattle.params.proofs.Places.{within_body}
-use Rattle.params.proofs.Texts.{text_end, text_bad, named_some, named_none}
-use Rattle.params.proofs.Pieces.{kind_there, piece_goes, text_piece}
+use Rattle.params.proofs.Texts.{text_bad, named_some, named_none}
+use Rattle.params.proofs.Pieces.{text_piece}
 use Rattle.params.proofs.text.read_text.Goals as goal
 use Rattle.std.proofs.Common.{Err}
 

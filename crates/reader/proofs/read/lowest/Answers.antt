@@ -1,5 +1,4 @@
 use Rattle.basis.proofs.Tests.{tests}
-use native.Mathlib.Omega.{arith}
 use mathlib.Core.Path.{◌∙◌, sym}
 use Rattle.reader.proofs.Frame.{frame_right}
 use Rattle.reader.specs.Read.{lowest_of}

@@ -1,7 +1,6 @@
 -- `repeat` gives the standing line wherever the stretch doesn't lie within the body.
-use Rattle.repeater.proofs.Stretches.{ends, stands, stretches}
+use Rattle.repeater.proofs.Stretches.{stands, stretches}
 use mathlib.Core.Path.{sym, ◌∙◌}
-use borrow.Author.Rules.{rules}
 use Rattle.repeater.proofs.stretch.repeat.Goals as goal
 
 pub returns-then-not-shows : goal.returns-then-not-shows

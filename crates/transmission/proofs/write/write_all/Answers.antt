@@ -3,7 +3,6 @@ use mathlib.Core.Path.{◌≡◌, ap, ◌∙◌}
 use native.Mathlib.Omega.{arith}
 use borrow.Author.Rules.{rules}
 use Rattle.basis.specs.Bytes.{laid}
-use Rattle.basis.proofs.Tests.{tests}
 use Rattle.packet.specs.Wire.{total_of, packets_of}
 use Rattle.packet.proofs.Writing.{never_refused, next_packet, transmission_refused, transmission_wrote}
 use Rattle.transmission.proofs.write.write_all.Goals as goal

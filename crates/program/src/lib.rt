@@ -13,10 +13,10 @@ mod table;
 
 pub use reader::read_command;
 
-// The sixteen commands, by their letters; `Scans` is `=`.
-#[derive(Clone, Copy)]
+// The sixteen commands, by their letters; `Scans` is `=`. They are numbered from 1 where a kind is told as a number (S2).
+#[derive(Clone, Copy, Debug, PartialEq, Eq)]
 pub enum Kind {
-    II,
+    II = 1,
     IA,
     IB,
     S,

@@ -14,43 +14,22 @@ use refusal::Refusal;
 fn kind_code(kind: Kind) -> u64
     ensures { result ≡ kind_of kind }
 {
-    match kind {
-        Kind::II => 1,
-        Kind::IA => 2,
-        Kind::IB => 3,
-        Kind::S => 4,
-        Kind::L => 5,
-        Kind::E => 6,
-        Kind::F => 7,
-        Kind::R => 8,
-        Kind::XS => 9,
-        Kind::XF => 10,
-        Kind::P => 11,
-        Kind::Scans => 12,
-        Kind::W => 13,
-        Kind::XD => 14,
-        Kind::XB => 15,
-        Kind::Y => 16,
-    }
+    kind as u64
 }
 
 // Writes what a command answered: seven words.
 fn lay_performed(performed: Performed, answer: &mut [u8])
     ensures { answer.new ≡ told_in 28 (words_of (values_of performed)) answer.old }
 {
-    let kind = performed.kind;
-    let scans = performed.scans;
-    let millis = performed.millis;
-    let code = kind_code(kind);
     lay(
         &[
-            code,
+            kind_code(performed.kind),
             performed.number as u64,
             performed.text as u64,
             performed.len as u64,
             performed.column as u64,
-            scans.0,
-            millis.0,
+            performed.scans.0,
+            performed.millis.0,
         ],
         answer,
     );

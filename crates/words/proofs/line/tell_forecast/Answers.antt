@@ -1,14 +1,12 @@
 -- `tell_forecast` lays the words of each answer; a refusal lays none.
-use mathlib.Core.Path.{sym, ap, ◌∙◌}
+use mathlib.Core.Path.{sym, ◌∙◌}
 use Rattle.basis.specs.Told.{Told}
 use Rattle.reckon.specs.Forecast.{told_of}
-use Rattle.reckon.specs.declared.reckon.Foretold.TheVariants.{Ends, Endless}
 use Rattle.words.specs.Words.{words_of, result_of}
 use Rattle.words.proofs.Lays.{answers, told_none}
-use Rattle.basis.proofs.Tests.{tests}
 use borrow.Author.Rules.{rules}
 use Rattle.words.proofs.line.tell_forecast.Goals as goal
-use Rattle.std.proofs.Common.{Ok, Err}
+use Rattle.std.proofs.Common.{Err}
 
 pub returns-in-Err : goal.returns-in-Err
 unfolding words_of

@@ -1,5 +1,4 @@
 -- `tell_received` writes four words, and the body after them; a refusal writes none.
-use Rattle.basis.proofs.Tests.{tests}
 use mathlib.Core.Path.{sym, ◌∙◌}
 use Prim.Native.Nat.{◌≤◌}
 use native.Mathlib.Omega.{arith}

@@ -1,13 +1,11 @@
 -- `tell_stepped` writes the words of each answer; a refusal writes none.
-use Rattle.basis.proofs.Tests.{tests}
-use mathlib.Core.Path.{◌≡◌, sym, ap, ◌∙◌}
+use mathlib.Core.Path.{sym, ◌∙◌}
 use Rattle.basis.specs.Told.{Told}
 use Rattle.machine.specs.Step.{told_of}
 use Rattle.words.specs.Words.{words_of}
 use Rattle.words.proofs.Lays.{answers, told_none}
 use borrow.Author.Rules.{rules}
-use Rattle.std.specs.Prelude.{Ok, Err, Option, Some, None}
-use Rattle.perform.specs.declared.price.Performed.{Performed}
+use Rattle.std.specs.Prelude.{Err}
 use Rattle.words.proofs.stepped.tell_stepped.Goals as goal
 
 pub returns-in-Err : goal.returns-in-Err

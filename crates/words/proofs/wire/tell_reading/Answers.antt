@@ -1,14 +1,11 @@
 -- `tell_reading` lays the words of each reading; a refusal lays none.
-use mathlib.Core.Path.{sym, ap, ◌∙◌}
+use mathlib.Core.Path.{sym, ◌∙◌}
 use Rattle.basis.specs.Told.{Told}
 use Rattle.reader.specs.Read.{told_of}
-use Rattle.reader.specs.declared.read.Packet.{Packet}
-use Rattle.reader.specs.declared.read.Packet.TheVariants.{Query, Reset, Normal}
 use Rattle.words.specs.Words.{words_of}
 use Rattle.words.proofs.Lays.{answers, told_none}
-use Rattle.basis.proofs.Tests.{tests}
 use borrow.Author.Rules.{rules}
-use Rattle.std.specs.Prelude.{Ok, Err}
+use Rattle.std.specs.Prelude.{Err}
 use Rattle.words.proofs.wire.tell_reading.Goals as goal
 
 pub returns-in-Err : goal.returns-in-Err

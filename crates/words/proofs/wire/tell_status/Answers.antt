@@ -3,10 +3,9 @@ use mathlib.Core.Path.{sym, ◌∙◌}
 use Rattle.basis.specs.Told.{Told}
 use Rattle.reply.specs.Reply.{told_of}
 use Rattle.words.specs.Words.{words_of}
-use Rattle.words.proofs.Lays.{answers, told_none, heard_lays}
-use Rattle.basis.proofs.Tests.{tests}
+use Rattle.words.proofs.Lays.{answers, told_none}
 use borrow.Author.Rules.{rules}
-use Rattle.std.specs.Prelude.{Ok, Err}
+use Rattle.std.specs.Prelude.{Err}
 use Rattle.words.proofs.wire.tell_status.Goals as goal
 
 pub returns-in-Err : goal.returns-in-Err

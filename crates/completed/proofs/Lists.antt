@@ -1,5 +1,5 @@
 -- Lists of IDs: whether an ID is among them, and the first of them.
-use Prim.Native.Nat.{ℕ, zero, suc, ◌<◌}
+use Prim.Native.Nat.{ℕ, zero, suc, ◌<◌, ◌≤◌}
 use mathlib.Core.List.{List, [], ◌∷◌}
 use mathlib.Core.Bool.{Bool, true, false, not}
 use mathlib.Core.Path.{◌≡◌, refl, sym, ap, ◌∙◌}
@@ -8,14 +8,16 @@ use native.Mathlib.Decide.{dec_le}
 use native.Mathlib.Omega.{arith}
 use Rattle.std.specs.Prelude.{min}
 use lib.Dec.{eqb, leb}
-use lib.ListN.{length, get_or, take}
+use lib.ListN.{length, get_or, take, drop}
 use lib.Seq.{take_all}
-use borrow.Author.Tests.{not-true}
+use borrow.Author.Tests.{not-true, le-leb}
 use Rattle.std.specs.Prelude.{◌||◌}
 use Rattle.std.specs.List.{list_any}
 use Rattle.basis.specs.Choice.{◌and◌, ◌or◌}
 use Rattle.basis.proofs.Choices.{and_parts, and_true}
-use Rattle.completed.specs.Completed.{newest_of, is_among, differ_of}
+use Rattle.room.specs.Room.{zeros_of}
+use Rattle.completed.specs.Completed.{ids_of, newest_of, is_among, differ_of, sound_of}
+use Rattle.completed.specs.declared.Completed.{Completed}
 
 -- one of them is this ID
 pub any_among : (id : ℕ) (s : List ℕ) → list_any (λ x. eqb id x) s ≡ is_among id s
@@ -71,3 +73,10 @@ take_most n s size =
     (λ many.
     let four : min n 4 ≡ 4 = omega arith in
     ap (λ (k : ℕ). take k s) four ∙ take_all 4 s (omega arith) ∙ sym (take_all n s (omega arith)))
+
+-- no more than four, all different: the room of the others decides
+pub sound_by : (d : Completed) → d.count ≤ 4 → differ_of (ids_of d) ≡ true → sound_of d ≡ zeros_of (drop d.count d.ids)
+unfolding sound_of
+sound_by d most differ =
+    ap (λ (t : Bool). t and differ_of (ids_of d) and zeros_of (drop d.count d.ids)) (le-leb d.count 4 most)
+    ∙ ap (λ (t : Bool). t and zeros_of (drop d.count d.ids)) differ

@@ -1,18 +1,20 @@
 -- Laws of a line's end, byte by byte, and how great a digit is.
-use Prim.Native.Nat.{ℕ, ◌+◌, ◌-◌, ◌≤◌}
+use Prim.Native.Nat.{ℕ, ◌+◌, ◌-◌, ◌≤◌, ◌<◌}
 use mathlib.Core.Path.{◌≡◌, refl, ap, ◌∙◌}
 use mathlib.Core.Bool.{Bool, true, false}
 use mathlib.Core.List.{List, [], ◌∷◌}
 use native.Mathlib.Omega.{arith}
 use lib.Dec.{eqb, ltb, leb}
-use lib.ListN.{length, take, drop, length-drop}
+use lib.ListN.{length, get_or, take, drop, length-drop}
 use lib.Seq.{take_all}
-use borrow.Author.Tests.{leb-true, ltb-false}
+use borrow.Author.Tests.{leb-true, ltb-false, ne_eqb}
 use Rattle.std.specs.Prelude.{Option, Some, None, cond, not, position}
 use Rattle.std.specs.Option.{unwrap_or}
 use Rattle.std.specs.List.{position_or_len}
 use Rattle.std.proofs.lemmas.List.Sums.{prefix_len-le-length}
 use Rattle.basis.specs.Choice.{when}
+use Rattle.basis.proofs.Choices.{when_false}
+use Rattle.basis.proofs.Lists.{drop_next}
 use Rattle.input.specs.Digits.{digit_of}
 use Rattle.input.specs.Lines.{line_end}
 
@@ -47,6 +49,10 @@ ends_at s at more first within found e =
       ap (λ n. at + n) place ∙ line_ends at (drop at s),
       (omega arith, omega (arith, prefix_len-le-length (λ x. not (eqb x 0x0A)) (drop at s), length-drop at s)),
     )
+
+-- a byte that is no line end moves the end of the line on
+pub goes_on_lem : (s : List ℕ) (at : ℕ) → at < length s → (get_or s at 0 ≡ 0x0A → ⊥) → line_end at (drop at s) ≡ line_end (at + 1) (drop (at + 1) s)
+goes_on_lem s at within e = ap (line_end at) (drop_next s at 0 within) ∙ when_false (eqb (get_or s at 0) 0x0A) _ _ (ne_eqb (get_or s at 0) 0x0A e)
 
 -- no digit is over 15
 pub digit_most : (x : ℕ) → digit_of x ≤ 15

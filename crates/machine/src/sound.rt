@@ -10,37 +10,18 @@ use room::clean;
 pub(crate) fn rests(place: usize, inner: Loop) -> bool
     ensures { result ≡ rests_of place inner }
 {
-    if place != 0 {
-        return false;
-    }
-    if inner.place != 0 {
-        return false;
-    }
-    inner.left == 0
+    place == 0 && inner.place == 0 && inner.left == 0
 }
 
 // Whether the open loop is the one that the place stands in.
 pub(crate) fn held(standing: Standing, inner: Loop) -> bool
     ensures { result ≡ held_of standing inner }
 {
-    let place = inner.place;
-    let left = inner.left;
     match standing {
         Standing::Nowhere => false,
-        Standing::Outside => {
-            if place != 0 {
-                return false;
-            }
-            left == 0
-        }
+        Standing::Outside => inner.place == 0 && inner.left == 0,
         Standing::Inside(behind, number) => {
-            if place != behind {
-                return false;
-            }
-            if left < 1 {
-                return false;
-            }
-            left as usize <= number
+            inner.place == behind && (1..=number).contains(&(inner.left as usize))
         }
     }
 }
@@ -49,10 +30,7 @@ pub(crate) fn held(standing: Standing, inner: Loop) -> bool
 pub(crate) fn filled(room: &[u8], len: usize) -> bool
     ensures { result ≡ filled_of room.now len }
 {
-    if room.len() < len {
-        return false;
-    }
-    clean(room, len)
+    len <= room.len() && clean(room, len)
 }
 
 impl Run {
@@ -60,20 +38,12 @@ impl Run {
     pub fn sound(self, room: &[u8]) -> bool
         ensures { result ≡ sound_of room.now self }
     {
-        let len = self.len;
-        let place = self.place;
-        let inner = self.inner;
-        let settings = self.settings;
-        if !settings.sound() {
+        if !self.settings.sound() {
             return false;
         }
-        if len == 0 {
-            return rests(place, inner);
+        if self.len == 0 {
+            return rests(self.place, self.inner);
         }
-        if !filled(room, len) {
-            return false;
-        }
-        let standing = stand(&room[..len], place);
-        held(standing, inner)
+        filled(room, self.len) && held(stand(&room[..self.len], self.place), self.inner)
     }
 }

@@ -53,62 +53,56 @@ impl Run {
         if self.len <= place {
             return ready(settings);
         }
-        let mut next = self;
-        next.place = place;
-        next.inner = inner;
-        next.settings = settings;
-        next
+        Run {
+            place,
+            inner,
+            settings,
+            ..self
+        }
     }
 
     // `E`: back behind the `L` with one less while more than 1 is left, else on.
     fn closed(self, next: usize) -> Run
         ensures { result ≡ closed_of self next }
     {
-        let inner = self.inner;
-        let settings = self.settings;
-        if inner.left <= 1 {
-            return self.settled(next, none(), settings);
+        if self.inner.left <= 1 {
+            return self.settled(next, none(), self.settings);
         }
-        let place = inner.place;
         let less = Loop {
-            place,
-            left: inner.left - 1,
+            left: self.inner.left - 1,
+            ..self.inner
         };
-        self.settled(place, less, settings)
+        self.settled(less.place, less, self.settings)
     }
 
     // `F`: back behind its `L`, and the count stays.
     fn returned(self, next: usize) -> Run
         ensures { result ≡ returned_of self next }
     {
-        let inner = self.inner;
-        let settings = self.settings;
-        if inner.left == 0 {
-            return self.settled(next, none(), settings);
+        if self.inner.left == 0 {
+            return self.settled(next, none(), self.settings);
         }
-        let place = inner.place;
-        self.settled(place, inner, settings)
+        self.settled(self.inner.place, self.inner, self.settings)
     }
 
     // The run behind a command of this kind and number that ends before `next`.
     fn moved(self, kind: Kind, number: u8, next: usize) -> Run
         ensures { result ≡ moved_of (role_of kind) kind number self next }
     {
-        let inner = kept(self.inner);
-        let settings = self.settings;
-        let does = role_of(kind);
-        match does {
-            Role::Plain => self.settled(next, inner, settings.behind(kind, number)),
+        match role_of(kind) {
+            Role::Plain => {
+                self.settled(next, kept(self.inner), self.settings.behind(kind, number))
+            }
             Role::Repeat => {
                 let opened = Loop {
                     place: next,
                     left: number,
                 };
-                self.settled(next, opened, settings)
+                self.settled(next, opened, self.settings)
             }
             Role::Close => self.closed(next),
             Role::Forever => self.returned(next),
-            Role::Again => self.settled(0, inner, settings),
+            Role::Again => self.settled(0, kept(self.inner), self.settings),
         }
     }
 
@@ -117,13 +111,17 @@ impl Run {
         requires { (held_of (stand_of body.now self.place) self.inner ≡ true) × (read_of body.now self.place ≡ Ok command) }
         ensures { result ≡ ran_of body.now self }
     {
-        let settings = self.settings;
         let kind = command.kind;
         let number = command.number as u8;
-        let text = command.text;
-        let count = command.len;
-        let widths = measure_at(body, text, count);
-        let said = perform(kind, number, text, count, widths, settings);
+        let widths = measure_at(body, command.text, command.len);
+        let said = perform(
+            kind,
+            number,
+            command.text,
+            command.len,
+            widths,
+            self.settings,
+        );
         Stepped {
             run: self.moved(kind, number, command.next),
             answer: Ok(Some(said)),
@@ -145,15 +143,11 @@ impl Run {
     pub fn step(self, room: &[u8]) -> Stepped
         ensures { result ≡ step_of room.now self }
     {
-        let len = self.len;
-        let place = self.place;
-        let inner = self.inner;
-        let settings = self.settings;
-        if !settings.sound() {
+        if !self.settings.sound() {
             return self.unsound();
         }
-        if len == 0 {
-            if !rests(place, inner) {
+        if self.len == 0 {
+            if !rests(self.place, self.inner) {
                 return self.unsound();
             }
             return Stepped {
@@ -161,14 +155,14 @@ impl Run {
                 answer: Ok(None),
             };
         }
-        if !filled(room, len) {
+        if !filled(room, self.len) {
             return self.unsound();
         }
-        let body = &room[..len];
-        let Some(found) = find(body, place) else {
+        let body = &room[..self.len];
+        let Some(found) = find(body, self.place) else {
             return self.unsound();
         };
-        if !held(found.standing, inner) {
+        if !held(found.standing, self.inner) {
             return self.unsound();
         }
         self.run(body, found.command)

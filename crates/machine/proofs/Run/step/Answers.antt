@@ -1,12 +1,11 @@
 -- `step` refuses an unsound run, rests when Ready, and goes on by the command that was found when Busy.
 use mathlib.Core.Path.{sym, ap, ◌∙◌}
-use lib.Seq.{length-take-le}
 use Rattle.program.specs.Command.{read_of}
 use Rattle.judge.specs.Standing.{stand_of}
 use Rattle.judge.specs.declared.Standing.{Standing}
 use Rattle.machine.specs.Sound.{body_of, held_of}
 use Rattle.machine.proofs.Keeps.{step_ready, step_busy, step_unsound}
-use Rattle.machine.proofs.Sounds.{unset, resting, unfilled, running, filled_fits, found_is, missing_unheld}
+use Rattle.machine.proofs.Sounds.{unset, resting, unfilled, running, found_is, missing_unheld}
 use Rattle.machine.proofs.Run.step.Goals as goal
 
 pub returns-then-not-sound : goal.returns-then-not-sound
@@ -21,13 +20,13 @@ returns-then-not-rests c =
     let set = sym c.sound.ensures ∙ c.if-not-sound.false in
     let rests = sym c.rests.ensures ∙ c.if-not-rests.true in
     c.unsound-then-not-rests.ensures
-    ∙ sym (step_unsound a.room.now a.self (resting a.room.now a.self set c.if-len-eq0.true ∙ rests))
+    ∙ sym (step_unsound a.room.now a.self (resting a.room.now a.self set c.if-self-eq0.true ∙ rests))
 
-pub returns-then-len-eq0 : goal.returns-then-len-eq0
-returns-then-len-eq0 c =
+pub returns-then-self-eq0 : goal.returns-then-self-eq0
+returns-then-self-eq0 c =
     let a = c.args in
     let set = sym c.sound.ensures ∙ c.if-not-sound.false in
-    let none = c.if-len-eq0.true in
+    let none = c.if-self-eq0.true in
     let rests = sym c.rests.ensures ∙ c.if-not-rests.false in
     sym (step_ready a.room.now a.self (resting a.room.now a.self set none ∙ rests) none)
 
@@ -37,13 +36,13 @@ returns-then-not-filled c =
     let set = sym c.sound.ensures ∙ c.if-not-sound.false in
     let bare = sym c.filled.ensures ∙ c.if-not-filled.true in
     c.unsound-then-not-filled.ensures
-    ∙ sym (step_unsound a.room.now a.self (unfilled a.room.now a.self set c.if-len-eq0.false bare))
+    ∙ sym (step_unsound a.room.now a.self (unfilled a.room.now a.self set c.if-self-eq0.false bare))
 
 pub returns-then-not-held : goal.returns-then-not-held
 returns-then-not-held c =
     let a = c.args in
     let set = sym c.sound.ensures ∙ c.if-not-sound.false in
-    let busy = c.if-len-eq0.false in
+    let busy = c.if-self-eq0.false in
     let full = sym c.filled.ensures ∙ c.if-not-filled.false in
     let found = found_is (stand_of (body_of a.room.now a.self) a.self.place) (read_of (body_of a.room.now a.self) a.self.place) _ (sym c.find.ensures ∙ c.in-Some.is) in
     let held = ap (λ (x : Standing). held_of x a.self.inner) found.0 ∙ sym c.held.ensures ∙ c.if-not-held.true in
@@ -53,7 +52,7 @@ pub returns-in_default : goal.returns-in_default
 returns-in_default c =
     let a = c.args in
     let set = sym c.sound.ensures ∙ c.if-not-sound.false in
-    let busy = c.if-len-eq0.false in
+    let busy = c.if-self-eq0.false in
     let full = sym c.filled.ensures ∙ c.if-not-filled.false in
     let none = sym c.find.ensures ∙ c.in_default.is in
     let held = missing_unheld (body_of a.room.now a.self) a.self.place a.self.inner none in
@@ -63,7 +62,7 @@ pub returns : goal.returns
 returns c =
     let a = c.args in
     let set = sym c.sound.ensures ∙ c.if-not-sound.false in
-    let busy = c.if-len-eq0.false in
+    let busy = c.if-self-eq0.false in
     let full = sym c.filled.ensures ∙ c.if-not-filled.false in
     let found = found_is (stand_of (body_of a.room.now a.self) a.self.place) (read_of (body_of a.room.now a.self) a.self.place) _ (sym c.find.ensures ∙ c.in-Some.is) in
     let held = ap (λ (x : Standing). held_of x a.self.inner) found.0 ∙ sym c.held.ensures ∙ c.if-not-held.false in

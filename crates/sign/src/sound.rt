@@ -12,18 +12,12 @@ impl Sign {
     pub fn sound(self) -> bool
         ensures { result ≡ sound_of self }
     {
-        let kept = self.completed;
-        let ids = kept.ids;
+        let ids = self.completed.ids;
         // A struct of its own: lent from the record, it would keep the whole record in memory.
         let completed = Completed {
-            count: kept.count,
+            count: self.completed.count,
             ids,
         };
-        let slots = self.slots;
-        let run = self.run;
-        if !framed(completed, slots, &self.room, self.run.len) {
-            return false;
-        }
-        run.sound(&self.room)
+        framed(completed, self.slots, &self.room, self.run.len) && self.run.sound(&self.room)
     }
 }

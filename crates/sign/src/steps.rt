@@ -11,13 +11,9 @@ use refusal::Refusal;
 fn empty(room: &mut [u8; 84], before: usize, after: usize)
     ensures { room.new ≡ room_after room.old before after }
 {
-    if before == 0 {
-        return;
+    if before != 0 && after == 0 {
+        *room = [0; 84];
     }
-    if after != 0 {
-        return;
-    }
-    *room = [0; 84];
 }
 
 impl Sign {
@@ -25,26 +21,22 @@ impl Sign {
     pub fn step(self) -> Stepped
         ensures { result ≡ step_of self }
     {
-        let completed = self.completed;
-        let slots = self.slots;
         let mut room = self.room;
-        let run = self.run;
-        if !framed(completed, slots, &room, self.run.len) {
+        if !framed(self.completed, self.slots, &room, self.run.len) {
             return Stepped {
                 sign: self,
                 answer: Err(Refusal::Unsound),
             };
         }
-        let went = run.step(&room);
-        let next = went.run;
-        let answer = went.answer;
-        empty(&mut room, self.run.len, next.len);
-        let sign = Sign {
-            completed,
-            slots,
-            room,
-            run: next,
-        };
-        Stepped { sign, answer }
+        let went = self.run.step(&room);
+        empty(&mut room, self.run.len, went.run.len);
+        Stepped {
+            sign: Sign {
+                room,
+                run: went.run,
+                ..self
+            },
+            answer: went.answer,
+        }
     }
 }

@@ -15,9 +15,8 @@ impl Sign {
         if !self.sound() {
             return Err(Refusal::Unsound);
         }
-        let completed = self.completed;
         let busy = self.run.len != 0;
-        write_reply(mid, completed.last(), busy, aux, out)
+        write_reply(mid, self.completed.last(), busy, aux, out)
     }
 
     // Copies the running body to the buffer's front, and tells its length.
@@ -27,12 +26,11 @@ impl Sign {
         if !self.sound() {
             return Err(Refusal::Unsound);
         }
-        let room = self.room;
         let len = self.run.len;
         if out.len() < len {
             return Err(Refusal::NoRoom);
         }
-        out[..len].copy_from_slice(&room[..len]);
+        out[..len].copy_from_slice(&self.room[..len]);
         Ok(len)
     }
 }

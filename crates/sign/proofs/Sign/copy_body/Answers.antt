@@ -3,7 +3,7 @@ use Rattle.std.proofs.Common.{◌≡◌, ℕ, List, ◌++◌, length, take, drop
 use lib.Seq.{take-length, length-take-le}
 use Rattle.machine.specs.Sound.{body_of}
 use Rattle.sign.proofs.Sounds.{body_fits}
-use Rattle.sign.proofs.Tells.{unsound_tells, short_tells, copy_tells}
+use Rattle.sign.proofs.Tells.{short_tells, copy_tells}
 use Rattle.sign.proofs.Sign.copy_body.Goals as goal
 
 pub returns-then-out-len : goal.returns-then-out-len
@@ -12,8 +12,8 @@ returns-then-out-len c =
     let e = sym c.sound.ensures ∙ c.if-not-sound.false in
     short_tells a.self a.out.now e (body_fits a.self e) c.if-out-len.true
 
-pub slice_bounds-room-end : goal.slice_bounds-room-end
-slice_bounds-room-end c =
+pub shared_ref_as_front-copy_from_slice : goal.shared_ref_as_front-copy_from_slice
+shared_ref_as_front-copy_from_slice c =
     let a = c.args in
     let e = sym c.sound.ensures ∙ c.if-not-sound.false in
     let l : length a.self.room ≡ 84 = search rules in

@@ -1,6 +1,5 @@
 -- `reply` hands on to the writer of replies; a sound record's last ID is one that it takes.
-use Rattle.sign.specs.Tell.{says_of}
-use Rattle.sign.proofs.Tells.{unsound_tells, reply_tells}
+use Rattle.sign.proofs.Tells.{reply_tells}
 use Rattle.sign.proofs.Sounds.{sound_parts}
 use mathlib.Core.Path.{sym, ◌∙◌}
 use Rattle.sign.proofs.Sign.reply.Goals as goal

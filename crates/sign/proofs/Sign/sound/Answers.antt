@@ -6,13 +6,14 @@ use Rattle.machine.specs.Sound.{sound_of as run_sound}
 use Rattle.sign.proofs.Sounds.{sound_framed}
 use Rattle.sign.proofs.Sign.sound.Goals as goal
 
-pub returns-then-not-framed : goal.returns-then-not-framed
-returns-then-not-framed c =
+pub returns-else-framed : goal.returns-else-framed
+returns-else-framed c =
     let s = c.args.self in
-    sym (sound_framed s ∙ ap (λ (t : Bool). t and run_sound s.room s.run) (sym c.framed.ensures ∙ c.if-not-framed.true))
+    let bare = c.if-framed.false in
+    bare ∙ sym (sound_framed s ∙ ap (λ (t : Bool). t and run_sound s.room s.run) (sym c.framed.ensures ∙ bare))
 
-pub returns : goal.returns
-returns c =
+pub returns-then-framed : goal.returns-then-framed
+returns-then-framed c =
     let s = c.args.self in
     c.sound.ensures
-    ∙ sym (sound_framed s ∙ ap (λ (t : Bool). t and run_sound s.room s.run) (sym c.framed.ensures ∙ c.if-not-framed.false))
+    ∙ sym (sound_framed s ∙ ap (λ (t : Bool). t and run_sound s.room s.run) (sym c.framed.ensures ∙ c.if-framed.true))

@@ -12,11 +12,10 @@ impl Sign {
     pub fn sound(self) -> bool
         ensures { result ≡ sound_of self }
     {
-        let ids = self.completed.ids;
         // A struct of its own: lent from the record, it would keep the whole record in memory.
         let completed = Completed {
             count: self.completed.count,
-            ids,
+            ids: self.completed.ids,
         };
         framed(completed, self.slots, &self.room, self.run.len) && self.run.sound(&self.room)
     }

@@ -13,8 +13,7 @@ use words::{tell_forecast, tell_verdict};
 pub extern "C" fn yd_judge(body: &[u8]) -> u32
     ensures { result ≡ judged_of (judge_of body.now) }
 {
-    let verdict = judge(body);
-    tell_verdict(verdict)
+    tell_verdict(judge(body))
 }
 
 // How long a body runs from this pace and scan setting, and what it leaves of both.
@@ -26,6 +25,5 @@ pub extern "C" fn yd_forecast(body: &[u8], pace: u8, scans: u8, answer: &mut [u8
     if answer.len() < 24 {
         return 252;
     }
-    let foretold = forecast(body, pace, scans);
-    tell_forecast(foretold, answer)
+    tell_forecast(forecast(body, pace, scans), answer)
 }

@@ -27,8 +27,7 @@ pub(crate) fn store(sign: Sign, image: &mut [u8])
     requires { length image.old ≡ image_size }
     ensures { image.new ≡ image_of sign }
 {
-    let held = image_of(sign);
-    image.copy_from_slice(&held);
+    image.copy_from_slice(&image_of(sign));
 }
 
 // Why a call on a sign is refused whose answer is too short: 16 for an unsound record, else the number that comes after it.

@@ -23,8 +23,7 @@ pub extern "C" fn yd_power_on(image: &mut [u8]) -> u32
     if image.len() != SIZE {
         return 251;
     }
-    let sign = Sign::power_on();
-    store(sign, image);
+    store(Sign::power_on(), image);
     0
 }
 
@@ -37,15 +36,12 @@ pub extern "C" fn yd_reset(image: &mut [u8]) -> u32
     if image.len() != SIZE {
         return 251;
     }
-    let sign = load(image);
-    let cleared = sign.reset();
-    let outcome = cleared.outcome;
-    let told = tell_outcome(outcome);
+    let cleared = load(image).reset();
+    let told = tell_outcome(cleared.outcome);
     if told != 0 {
         return told;
     }
-    let next = cleared.sign;
-    store(next, image);
+    store(cleared.sign, image);
     0
 }
 
@@ -64,14 +60,11 @@ pub extern "C" fn yd_receive(image: &mut [u8], mid: u8, bytes: &[u8], answer: &m
         return short(sign, short_for(mid));
     }
     let received = sign.receive(mid, bytes);
-    let outcome = received.outcome;
-    let body = received.body;
-    let told = tell_received(outcome, &body, received.len, answer);
+    let told = tell_received(received.outcome, &received.body, received.len, answer);
     if told != 0 {
         return told;
     }
-    let next = received.sign;
-    store(next, image);
+    store(received.sign, image);
     0
 }
 
@@ -90,13 +83,11 @@ pub extern "C" fn yd_step(image: &mut [u8], answer: &mut [u8]) -> u32
         return short(sign, 252);
     }
     let stepped = sign.step();
-    let said = stepped.answer;
-    let told = tell_stepped(said, answer);
+    let told = tell_stepped(stepped.answer, answer);
     if told != 0 {
         return told;
     }
-    let next = stepped.sign;
-    store(next, image);
+    store(stepped.sign, image);
     0
 }
 
@@ -108,9 +99,7 @@ pub extern "C" fn yd_reply(image: &[u8], mid: u8, aux: u8, out: &mut [u8]) -> u3
     if image.len() != SIZE {
         return 251;
     }
-    let sign = load(image);
-    let written = sign.reply(mid, aux != 0, out);
-    tell_written(written)
+    tell_written(load(image).reply(mid, aux != 0, out))
 }
 
 // Copies the running body, none when Ready.
@@ -121,9 +110,7 @@ pub extern "C" fn yd_copy_body(image: &[u8], out: &mut [u8]) -> u32
     if image.len() != SIZE {
         return 251;
     }
-    let sign = load(image);
-    let written = sign.copy_body(out);
-    tell_written(written)
+    tell_written(load(image).copy_body(out))
 }
 
 // Whether the repeater shows the stretch of the body at this place and of this length, and not the standing line: the value is 1 or 0.

@@ -22,8 +22,7 @@ pub extern "C" fn yd_read_packet(mid: u8, bytes: &[u8], answer: &mut [u8]) -> u3
     if answer.len() < 20 {
         return short_for(mid);
     }
-    let reading = read_packet(mid, bytes);
-    tell_reading(reading, answer)
+    tell_reading(read_packet(mid, bytes), answer)
 }
 
 // What a reply of the sign of this MID tells.
@@ -35,8 +34,7 @@ pub extern "C" fn yd_read_reply(mid: u8, bytes: &[u8], answer: &mut [u8]) -> u32
     if answer.len() < 12 {
         return short_for(mid);
     }
-    let status = read_reply(mid, bytes);
-    tell_status(status, answer)
+    tell_status(read_reply(mid, bytes), answer)
 }
 
 // Lays a query.
@@ -44,8 +42,7 @@ pub extern "C" fn yd_read_reply(mid: u8, bytes: &[u8], answer: &mut [u8]) -> u32
 pub extern "C" fn yd_write_query(mid: u8, out: &mut [u8]) -> u32
     ensures { Tells (mid_row mid ∷ short_by (query_of mid) out.old ∷ []) (query_of mid) out.old result out.new }
 {
-    let written = write_query(mid, out);
-    tell_written(written)
+    tell_written(write_query(mid, out))
 }
 
 // Lays a reset.
@@ -53,8 +50,7 @@ pub extern "C" fn yd_write_query(mid: u8, out: &mut [u8]) -> u32
 pub extern "C" fn yd_write_reset(mid: u8, out: &mut [u8]) -> u32
     ensures { Tells (mid_row mid ∷ short_by (reset_of mid) out.old ∷ []) (reset_of mid) out.old result out.new }
 {
-    let written = write_reset(mid, out);
-    tell_written(written)
+    tell_written(write_reset(mid, out))
 }
 
 // Lays the packet at one position of a body.
@@ -62,8 +58,7 @@ pub extern "C" fn yd_write_reset(mid: u8, out: &mut [u8]) -> u32
 pub extern "C" fn yd_write_packet(mid: u8, id: u8, body: &[u8], position: u8, out: &mut [u8]) -> u32
     ensures { Tells (mid_row mid ∷ packet_rows mid id body.now position out.old) (packet_at mid id body.now position) out.old result out.new }
 {
-    let written = write_packet(mid, id, body, position, out);
-    tell_written(written)
+    tell_written(write_packet(mid, id, body, position, out))
 }
 
 // Lays all packets of a body, back to back.
@@ -71,8 +66,7 @@ pub extern "C" fn yd_write_packet(mid: u8, id: u8, body: &[u8], position: u8, ou
 pub extern "C" fn yd_write_transmission(mid: u8, id: u8, body: &[u8], out: &mut [u8]) -> u32
     ensures { Tells (mid_row mid ∷ transmission_rows mid id body.now out.old) (transmission_of mid id body.now) out.old result out.new }
 {
-    let written = write_transmission(mid, id, body, out);
-    tell_written(written)
+    tell_written(write_transmission(mid, id, body, out))
 }
 
 // Lays a reply; what isn't 0 is Busy, and what isn't 0 is sink.
@@ -80,6 +74,5 @@ pub extern "C" fn yd_write_transmission(mid: u8, id: u8, body: &[u8], out: &mut 
 pub extern "C" fn yd_write_reply(mid: u8, last: u8, busy: u8, sink: u8, out: &mut [u8]) -> u32
     ensures { Tells (mid_row mid ∷ reply_rows mid last (not (eqb busy 0)) (not (eqb sink 0)) out.old) (reply_of mid last (not (eqb busy 0)) (not (eqb sink 0))) out.old result out.new }
 {
-    let written = write_reply(mid, last, busy != 0, sink != 0, out);
-    tell_written(written)
+    tell_written(write_reply(mid, last, busy != 0, sink != 0, out))
 }

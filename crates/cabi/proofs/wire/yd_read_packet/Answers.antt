@@ -12,7 +12,7 @@ use Rattle.cabi.proofs.wire.yd_read_packet.Goals as goal
 pub returns : goal.returns
 returns c =
     let a = c.args in
-    let told = reader_told told_of a.mid 20 a.answer.now c.read_packet-reading.result (read_of a.mid a.bytes.now) c.read_packet-reading.ensures
+    let told = reader_told told_of a.mid 20 a.answer.now c.read_packet.result (read_of a.mid a.bytes.now) c.read_packet.ensures
     (search rules)
     (λ e. ap (λ (x : Result Packet Refusal). (told_of x).number) (read_stops a.mid a.bytes.now e))
     (c.tell_reading.ensures.result, c.tell_reading.ensures.told) in

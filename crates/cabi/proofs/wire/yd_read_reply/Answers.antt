@@ -12,7 +12,7 @@ use Rattle.cabi.proofs.wire.yd_read_reply.Goals as goal
 pub returns : goal.returns
 returns c =
     let a = c.args in
-    let told = reader_told told_of a.mid 12 a.answer.now c.read_reply-status.result (heard_of a.mid a.bytes.now) c.read_reply-status.ensures
+    let told = reader_told told_of a.mid 12 a.answer.now c.read_reply.result (heard_of a.mid a.bytes.now) c.read_reply.ensures
     (search rules)
     (λ e. ap (λ (x : Result Status Refusal). (told_of x).number) (heard_stops a.mid a.bytes.now e))
     (c.tell_status.ensures.result, c.tell_status.ensures.told) in

@@ -4,4 +4,4 @@ use Rattle.cabi.proofs.Lays.{tells}
 use Rattle.cabi.proofs.wire.yd_write_packet.Goals as goal
 
 pub returns : goal.returns
-returns c = tells (refl, (refl, (refl, (refl, (refl, tt))))) c.write_packet-written.ensures c.tell_written.ensures
+returns c = tells (refl, (refl, (refl, (refl, (refl, tt))))) c.write_packet.ensures c.tell_written.ensures

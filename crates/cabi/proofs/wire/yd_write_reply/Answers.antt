@@ -4,4 +4,4 @@ use Rattle.cabi.proofs.Lays.{tells}
 use Rattle.cabi.proofs.wire.yd_write_reply.Goals as goal
 
 pub returns : goal.returns
-returns c = tells (refl, (refl, (refl, tt))) c.write_reply-written.ensures c.tell_written.ensures
+returns c = tells (refl, (refl, (refl, tt))) c.write_reply.ensures c.tell_written.ensures

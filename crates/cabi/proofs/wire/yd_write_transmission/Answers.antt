@@ -4,4 +4,4 @@ use Rattle.cabi.proofs.Lays.{tells}
 use Rattle.cabi.proofs.wire.yd_write_transmission.Goals as goal
 
 pub returns : goal.returns
-returns c = tells (refl, (refl, (refl, (refl, tt)))) c.write_transmission-written.ensures c.tell_written.ensures
+returns c = tells (refl, (refl, (refl, (refl, tt)))) c.write_transmission.ensures c.tell_written.ensures

@@ -15,11 +15,11 @@ use Rattle.basis.specs.Bytes.{laid}
 use Rattle.basis.specs.Told.{Told, flag_of}
 use Rattle.basis.proofs.Choices.{when_true, when_false}
 use Rattle.basis.proofs.Laid.{laid_lent, laid_copied, length_laid, take_laid, laid_over}
-use Rattle.std.specs.Prelude.{Result, Ok, Err}
+use Rattle.std.specs.Prelude.{Result, Ok}
 use Rattle.refusal.specs.declared.Refusal.{Refusal}
 use Rattle.words.specs.Words.{word_of, words_of, result_of}
-use Rattle.hear.specs.Hear.{told_of}
 use Rattle.hear.specs.declared.Outcome.{Outcome}
+use Rattle.hear.specs.declared.Outcome.TheVariants.{Query, Reset, Repeat, Stored, Released}
 use Rattle.words.specs.Told.{answer_row, first_or, told_in}
 use Rattle.words.specs.Says.{outcome_of, program_of, place_of, received_bytes}
 
@@ -108,10 +108,13 @@ heard_lays last false false answer = refl
 pub row_past : (size : ℕ) (answer : List ℕ) (n : ℕ) → size ≤ length answer → n ≡ first_or (answer_row size answer ∷ []) n
 row_past size answer n room = sym (when_false (ltb (length answer) size) 252 n (le-ltb (length answer) size room))
 
--- an outcome that is told something is no refusal
-pub told_yes : (o : Result Outcome Refusal) → (outcome_of o ≡ 0 → ⊥) → (told_of o).number ≡ 0
-told_yes (Ok x) h = refl
-told_yes (Err e) h = absurd (h refl)
+-- an outcome that is no refusal is told something
+pub heard_some : (x : Outcome) → outcome_of (Ok x) ≡ 0 → ⊥
+heard_some Query h = omega arith
+heard_some Reset h = omega arith
+heard_some Repeat h = omega arith
+heard_some Stored h = omega arith
+heard_some (Released v) h = omega arith
 
 -- four words, and a body copied after them
 pub received_lays : (o : Result Outcome Refusal) (body : List ℕ) (len : ℕ) (answer f y : List ℕ) (p q r : ℕ) → 100 ≤ length answer → p ≡ outcome_of o → (p ≡ 0 → ⊥)

@@ -45,11 +45,15 @@ pub fn tell_forecast(foretold: Result<Foretold, Fault>, answer: &mut [u8]) -> u3
                 scans,
             },
         ) => {
-            let steps = totals.steps;
-            let shown = totals.scans;
-            let millis = totals.millis;
             lay(
-                &[0, steps.0, shown.0, millis.0, pace as u64, scans as u64],
+                &[
+                    0,
+                    totals.steps.0,
+                    totals.scans.0,
+                    totals.millis.0,
+                    pace as u64,
+                    scans as u64,
+                ],
                 answer,
             );
             result(0, 0)

@@ -1,44 +1,24 @@
 // A sign that received (J3), with the body that was released (J10) and its refusal (J12).
 ghost use Rattle.std.specs.Prelude.{◌≡◌, [], ◌∷◌};
-ghost use Rattle.hear.specs.Hear.{told_of};
+ghost use Rattle.hear.specs.Hear.{values_of, told_of};
 ghost use Rattle.words.specs.Told.{answer_row, first_or, told_in};
-ghost use Rattle.words.specs.Says.{outcome_of, program_of, place_of, received_bytes};
+ghost use Rattle.words.specs.Says.{received_bytes};
 
 use crate::laying::lay;
 use hear::Outcome;
 use refusal::Refusal;
 
-// The outcome of a receive as a number; 0 where it is refused.
-fn outcome_code(outcome: Result<Outcome, Refusal>) -> u64
-    ensures { result ≡ outcome_of outcome }
+// An outcome as a number, and the number for no of a released body's program with its place; 0 and 0 where it is accepted or none was released.
+fn outcome_codes(outcome: Outcome) -> [u64; 3]
+    ensures { result ≡ values_of outcome }
 {
     match outcome {
-        Ok(Outcome::Query) => 1,
-        Ok(Outcome::Reset) => 2,
-        Ok(Outcome::Repeat) => 3,
-        Ok(Outcome::Stored) => 4,
-        Ok(Outcome::Released(_)) => 5,
-        Err(_) => 0,
-    }
-}
-
-// The number for no of a released body's program; 0 where it is accepted or none was released.
-fn program_no(outcome: Result<Outcome, Refusal>) -> u64
-    ensures { result ≡ program_of outcome }
-{
-    match outcome {
-        Ok(Outcome::Released(Err(fault))) => fault.refusal.number() as u64,
-        _ => 0,
-    }
-}
-
-// The place of that refusal.
-fn program_at(outcome: Result<Outcome, Refusal>) -> u64
-    ensures { result ≡ place_of outcome }
-{
-    match outcome {
-        Ok(Outcome::Released(Err(fault))) => fault.place as u64,
-        _ => 0,
+        Outcome::Query => [1, 0, 0],
+        Outcome::Reset => [2, 0, 0],
+        Outcome::Repeat => [3, 0, 0],
+        Outcome::Stored => [4, 0, 0],
+        Outcome::Released(Ok(_)) => [5, 0, 0],
+        Outcome::Released(Err(fault)) => [5, fault.refusal.number() as u64, fault.place as u64],
     }
 }
 
@@ -65,14 +45,11 @@ pub fn tell_received(
     if answer.len() < 100 {
         return 252;
     }
-    let code = outcome_code(outcome);
-    if code == 0 {
+    let Ok(heard) = outcome else {
         return tell_outcome(outcome);
-    }
-    lay(
-        &[code, program_no(outcome), program_at(outcome), len as u64],
-        answer,
-    );
+    };
+    let [code, program, place] = outcome_codes(heard);
+    lay(&[code, program, place, len as u64], answer);
     let end = 16 + body.len();
     answer[16..end].copy_from_slice(body);
     0

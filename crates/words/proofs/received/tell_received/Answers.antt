@@ -1,21 +1,26 @@
 -- `tell_received` writes four words, and the body after them; a refusal writes none.
-use mathlib.Core.Path.{sym, ◌∙◌}
+use mathlib.Core.Path.{sym, ap, ◌∙◌}
 use Prim.Native.Nat.{◌≤◌}
 use native.Mathlib.Omega.{arith}
-use lib.ListN.{length}
-use Rattle.std.proofs.Common.{◌≡◌, rules}
-use Rattle.words.proofs.Lays.{row_past, told_yes, received_lays, refused_lays}
+use Rattle.std.proofs.Common.{◌≡◌, List, ℕ, length, rules}
+use Rattle.std.specs.Prelude.{get_or}
+use Rattle.words.specs.Says.{outcome_of, program_of, place_of}
+use Rattle.words.proofs.Lays.{heard_some, received_lays, refused_lays}
 use Rattle.words.proofs.received.tell_received.Goals as goal
 
-pub returns-then-code-eq0 : goal.returns-then-code-eq0
-returns-then-code-eq0 c =
+pub returns-in_default-clause-told : goal.returns-in_default-clause-told
+returns-in_default-clause-told c =
     let a = c.args in
-    let room : 100 ≤ length a.answer.now = omega (arith, c.if-answer-lt100.false) in
-    record { result = c.tell_outcome.ensures ∙ row_past 100 a.answer.now _ room; told = refused_lays a.outcome a.body.now a.len a.answer.now room (sym c.outcome_code-code.ensures ∙ c.if-code-eq0.true) }
+    refused_lays a.outcome a.body.now a.len a.answer.now (omega (arith, c.if-answer-lt100.false)) (ap outcome_of c.in_default.is)
 
-pub returns : goal.returns
-returns c =
+pub returns-clause-told : goal.returns-clause-told
+returns-clause-told c =
     let a = c.args in
+    let v = c.outcome_codes.result in
+    let e = c.outcome_codes.ensures in
+    let code = ap (λ (w : List ℕ). get_or w 0 0) e in
+    let no = ap (λ (w : List ℕ). get_or w 1 0) e ∙ sym (ap program_of c.in-Ok.is) in
+    let at = ap (λ (w : List ℕ). get_or w 2 0) e ∙ sym (ap place_of c.in-Ok.is) in
     let room : 100 ≤ length a.answer.now = omega (arith, c.if-answer-lt100.false) in
     let size : length a.body.now ≡ 84 = search rules in
-    record { result = sym (told_yes a.outcome (λ z. c.if-code-eq0.false (c.outcome_code-code.ensures ∙ z))) ∙ row_past 100 a.answer.now _ room; told = received_lays a.outcome a.body.now a.len a.answer.now c.lay.new.out c.copy_from_slice.new.self c.outcome_code-code.result c.program_no.result c.program_at.result room c.outcome_code-code.ensures c.if-code-eq0.false c.program_no.ensures c.program_at.ensures c.lay.ensures size c.copy_from_slice.ensures.after }
+    received_lays a.outcome a.body.now a.len a.answer.now c.lay.new.out c.copy_from_slice.new.self (get_or v 0 0) (get_or v 1 0) (get_or v 2 0) room (code ∙ sym (ap outcome_of c.in-Ok.is)) (λ z. heard_some c.in-Ok.heard (sym code ∙ z)) no at c.lay.ensures size c.copy_from_slice.ensures.after

@@ -1,5 +1,5 @@
 -- `yd_receive` takes the record out of the image, and puts the next one back; a refusal leaves image and answer.
-use mathlib.Core.Path.{◌≡◌, sym, ap, subst, ◌∙◌}
+use mathlib.Core.Path.{◌≡◌, ap, subst, ◌∙◌}
 use mathlib.Core.List.{[], ◌∷◌}
 use Rattle.packet.specs.Mid.{mid_row}
 use Rattle.hear.specs.Hear.{told_of}
@@ -9,7 +9,7 @@ use Rattle.sign.specs.declared.Sign.{Sign}
 use Rattle.sign.specs.declared.Received.{Received}
 use Rattle.words.specs.Told.{answer_row, first_or, told_in}
 use Rattle.words.specs.Says.{received_bytes}
-use Rattle.cabi.proofs.Lays.{mid_is, mid_short, mid_not_0, unsized, too_short, refused_went, told_went, ill_receives, forbidden_19, quiet_receive}
+use Rattle.cabi.proofs.Lays.{mid_is, refused_went, told_went, ill_receives, forbidden_19, quiet_receive}
 use Rattle.cabi.proofs.unit.yd_receive.Goals as goal
 
 pub returns-then-told-ne0 : goal.returns-then-told-ne0

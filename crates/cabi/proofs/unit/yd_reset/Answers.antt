@@ -1,5 +1,4 @@
 -- `yd_reset` writes the record after a reset of the one in the image.
-use Rattle.basis.proofs.Tests.{tests}
 use mathlib.Core.Path.{sym, ap, ◌∙◌}
 use Rattle.hear.specs.Hear.{told_of}
 use Rattle.image.specs.Layout.{image_of, record_of}

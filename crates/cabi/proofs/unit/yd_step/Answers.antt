@@ -7,8 +7,7 @@ use Rattle.sign.specs.Step.{step_of}
 use Rattle.sign.specs.declared.Stepped.{Stepped}
 use Rattle.words.specs.Words.{words_of}
 use Rattle.words.specs.Told.{answer_row, first_or, told_in}
-use Rattle.cabi.proofs.Lays.{answer_is, answer_short, unsized, too_short, refused_went, told_went, ill_steps, quiet_step}
-use native.Mathlib.Omega.{arith}
+use Rattle.cabi.proofs.Lays.{answer_is, refused_went, told_went, ill_steps, quiet_step}
 use Rattle.cabi.proofs.unit.yd_step.Goals as goal
 
 pub returns-then-told-ne0 : goal.returns-then-told-ne0

@@ -6,7 +6,7 @@ use Rattle.refusal.specs.declared.Refusal.{Refusal}
 use Rattle.reader.specs.Read.{read_of, told_of}
 use Rattle.reader.specs.declared.read.Packet.{Packet}
 use Rattle.reader.proofs.Guard.{read_stops}
-use Rattle.cabi.proofs.Lays.{reader_short, reader_told}
+use Rattle.cabi.proofs.Lays.{reader_told}
 use Rattle.cabi.proofs.wire.yd_read_packet.Goals as goal
 
 pub returns : goal.returns

@@ -6,7 +6,7 @@ use Rattle.refusal.specs.declared.Refusal.{Refusal}
 use Rattle.reply.specs.Reply.{heard_of, told_of}
 use Rattle.reply.specs.declared.Status.{Status}
 use Rattle.reply.proofs.Replies.{heard_stops}
-use Rattle.cabi.proofs.Lays.{reader_short, reader_told}
+use Rattle.cabi.proofs.Lays.{reader_told}
 use Rattle.cabi.proofs.wire.yd_read_reply.Goals as goal
 
 pub returns : goal.returns

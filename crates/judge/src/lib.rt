@@ -34,7 +34,7 @@ pub type Verdict = Result<Ending, Fault>;
 pub enum Standing {
     Nowhere,
     Outside,
-    Inside(usize, usize),
+    Inside(usize, u8),
 }
 
 // A body's commands walked: the verdict on them, where the place looked for stands, and what was read there if it stands anywhere.

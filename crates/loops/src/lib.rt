@@ -26,7 +26,7 @@ pub enum Role {
 pub struct Open {
     pub caret: usize,
     pub behind: usize,
-    pub number: usize,
+    pub number: u8,
 }
 
 // Where judging stands: outside loops, within one, or behind an `F` or `R`.

@@ -1,4 +1,4 @@
--- What the step's code needs of a good command: its number is a byte, and its answer is that of its kind.
+-- What the step's code needs of a good command: its number is in range, and its answer is that of its kind.
 use Prim.Native.Nat.{ℕ, ◌+◌, ◌≤◌}
 use mathlib.Core.List.{List, []}
 use mathlib.Core.Path.{◌≡◌, refl, ap, subst}
@@ -37,9 +37,6 @@ range_byte W n h = omega arith
 range_byte XD n h = omega arith
 range_byte XB n h = omega arith
 range_byte Y n h = omega arith
-
-pub number_byte : (b : List ℕ) (p : ℕ) (c : Command) → read_of b p ≡ Ok c → c.number ≤ 255
-number_byte b p c e = range_byte c.kind c.number (number_in_range b p c e)
 
 -- an answer without text goes by its kind and number alone
 bare_answer : (k : Kind) (n m t l : ℕ) (w : Widths) (σ : Settings) → n ≡ m → t ≡ 0 → l ≡ 0 → answer_of k m 0 0 w σ ≡ answer_of k n t l w σ

@@ -21,7 +21,7 @@ pub(crate) fn held(standing: Standing, inner: Loop) -> bool
         Standing::Nowhere => false,
         Standing::Outside => inner.place == 0 && inner.left == 0,
         Standing::Inside(behind, number) => {
-            inner.place == behind && (1..=number).contains(&(inner.left as usize))
+            inner.place == behind && (1..=number).contains(&inner.left)
         }
     }
 }

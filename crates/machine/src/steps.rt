@@ -112,7 +112,7 @@ impl Run {
         ensures { result ≡ ran_of body.now self }
     {
         let kind = command.kind;
-        let number = command.number as u8;
+        let number = command.number;
         let widths = measure_at(body, command.text, command.len);
         let said = perform(
             kind,

@@ -20,5 +20,5 @@ pub use text::read_text;
 #[derive(Clone, Copy)]
 pub struct Parameter {
     pub next: usize,
-    pub number: usize,
+    pub number: u8,
 }

@@ -23,22 +23,20 @@ pub fn read_number(
         refusal: Refusal::WrongNumber,
         place,
     };
-    let least = lo as usize;
-    let greatest = hi as usize;
     let mut at = from;
-    let mut value: usize = 0;
+    let mut value: u32 = 0;
     loop {
         let x = byte_at(body, at);
         if x == CARET {
             if at == from {
                 return Err(wrong);
             }
-            if value < least {
+            if value < lo as u32 {
                 return Err(wrong);
             }
             return Ok(Parameter {
                 next: at,
-                number: value,
+                number: value as u8,
             });
         }
         if x < b'0' {
@@ -51,12 +49,11 @@ pub fn read_number(
             return Err(wrong);
         }
         let digit = (x - b'0') as u32;
-        let once = value as u32;
-        let twice = once + once;
+        let twice = value + value;
         let fourfold = twice + twice;
         let eightfold = fourfold + fourfold;
-        value = (eightfold + twice + digit) as usize;
-        if greatest < value {
+        value = eightfold + twice + digit;
+        if (hi as u32) < value {
             return Err(wrong);
         }
         at += 1;

@@ -54,7 +54,7 @@ pub struct Row {
 #[derive(Clone, Copy)]
 pub struct Command {
     pub next: usize,
-    pub number: usize,
+    pub number: u8,
     pub text: usize,
     pub len: usize,
     pub kind: Kind,

@@ -41,7 +41,7 @@ pub(crate) fn added(body: &[u8], command: Command, at: Reckoned) -> Reckoned
     ensures { result ≡ added_of (get body.now at.place) at }
 {
     let kind = command.kind;
-    let number = command.number as u8;
+    let number = command.number;
     let text = command.text;
     let count = command.len;
     let settings = at.settings;

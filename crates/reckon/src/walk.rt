@@ -37,7 +37,7 @@ fn closed(body: &[u8], outer: Open, sums: Sums) -> Totals
     };
     let again = later(body, start, first);
     let read = sums.before.plus(first.totals);
-    read.plus(again.times((outer.number - 1) as u8))
+    read.plus(again.times(outer.number - 1))
 }
 
 // An `E`, which closes the open loop.

@@ -2,15 +2,9 @@
 use native.Mathlib.Omega.{arith}
 use mathlib.Core.Path.{◌∙◌}
 use Rattle.measure.proofs.Columns.{part_all}
-use Rattle.machine.proofs.Commands.{number_byte}
 use Rattle.machine.proofs.Moves.{ran_good}
 use Rattle.machine.proofs.Sounds.{held_most}
 use Rattle.machine.proofs.Run.run.Goals as goal
-
-pub overflow_cast-number : goal.overflow_cast-number
-overflow_cast-number c =
-    let a = c.args in
-    omega (arith, number_byte a.body.now a.self.place a.command c.requires.1)
 
 pub returns : goal.returns
 returns c =

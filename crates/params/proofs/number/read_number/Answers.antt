@@ -5,8 +5,8 @@ use Rattle.params.specs.Bytes.{param_of}
 use Rattle.params.proofs.Numbers.{number_wrong, value_grows, next_value}
 use Rattle.params.proofs.number.read_number.Goals as goal
 
-pub returns-then-greatest-value : goal.returns-then-greatest-value
-returns-then-greatest-value c =
+pub returns-then-hi-value : goal.returns-then-hi-value
+returns-then-hi-value c =
     let l = c.loop-wrong in
     let a = c.args in
     let v = l.value * 10 + (c.byte_at-x.result - 0x30) in

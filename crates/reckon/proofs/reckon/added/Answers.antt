@@ -2,14 +2,8 @@
 use mathlib.Core.Path.{◌∙◌}
 use native.Mathlib.Omega.{arith}
 use Rattle.measure.proofs.Columns.{part_all}
-use Rattle.machine.proofs.Commands.{number_byte}
 use Rattle.reckon.proofs.Reckons.{added_is}
 use Rattle.reckon.proofs.reckon.added.Goals as goal
-
-pub overflow_cast-number : goal.overflow_cast-number
-overflow_cast-number c =
-    let a = c.args in
-    omega (arith, number_byte a.body.now a.at.place a.command c.requires.0)
 
 pub returns : goal.returns
 returns c =

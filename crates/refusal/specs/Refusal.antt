@@ -1,5 +1,5 @@
 -- The rules' numbers for no (N1 to N35), the name that each has in the code, and answers that are refused by name.
-use Rattle.std.specs.Prelude.{◌≡◌, ℕ, zero, suc, eqb, List, [], ◌∷◌, Result, Ok, Err}
+use Rattle.std.specs.Prelude.{◌≡◌, ℕ, zero, suc, eqb, List, [], ◌∷◌, ◌++◌, codes, decimal, Result, Ok, Err}
 use Rattle.basis.specs.Choice.{when}
 use Rattle.basis.specs.Rows.{Row, ◌if◌}
 use Rattle.basis.specs.Told.{Told, yes, no, no_at}
@@ -39,7 +39,7 @@ number_of NoPosition = 33
 number_of NoRoom = 34
 number_of NoReply = 35
 
--- the name of a number; a number of no rule has none, and stands for 1 here, which no table asks for
+-- the name of a number. A number without a name gets the name of 1, and no table holds such a number (`AllNamed`)
 abbrev pub refusal_of : ℕ → Refusal
 refusal_of n =
     when (eqb n 2) TooManyBytes (
@@ -89,6 +89,13 @@ refused_or (suc n) answer = Err (refusal_of (suc n))
 -- a fault of this number at this place
 abbrev pub fault : (number place : ℕ) → Fault
 fault number place = record { refusal = refusal_of number; place = place }
+
+-- what is printed: `refused 31`, and for a fault `refused 23 at 5`
+abbrev pub refusal_text : Refusal → List ℕ
+refusal_text e = codes "refused " ++ decimal (number_of e)
+
+abbrev pub fault_text : Fault → List ℕ
+fault_text f = refusal_text f.refusal ++ codes " at " ++ decimal f.place
 
 -- the answer in the rules' numbers, by what the values of a yes are
 abbrev pub told_by : {A : Type 0} → (A → List ℕ) → Result A Refusal → Told

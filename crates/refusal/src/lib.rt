@@ -2,8 +2,8 @@
 
 // Why a call says no: the rules' numbers for no, each with a name (N0). The calls for C have two more of their own, 251 and 252.
 // `Fault` is a refusal with the place that it is told with, which only those of a body have (N21 to N28).
-ghost use Rattle.std.specs.Prelude.{◌≡◌};
-ghost use Rattle.refusal.specs.Refusal.{number_of};
+ghost use Rattle.std.specs.Prelude.{◌≡◌, Some};
+ghost use Rattle.refusal.specs.Refusal.{number_of, refusal_text, fault_text};
 
 use std::error::Error;
 use std::fmt;
@@ -87,12 +87,16 @@ impl Refusal {
 }
 
 impl fmt::Display for Refusal {
+    ghost output = { λ e. Some (refusal_text e) };
+
     fn fmt<W: fmt::Write>(&self, f: &mut fmt::Formatter<W>) -> fmt::Result {
         write!(f, "refused {}", self.number())
     }
 }
 
 impl fmt::Display for Fault {
+    ghost output = { λ f. Some (fault_text f) };
+
     fn fmt<W: fmt::Write>(&self, f: &mut fmt::Formatter<W>) -> fmt::Result {
         write!(f, "{} at {}", self.refusal, self.place)
     }

@@ -1,9 +1,9 @@
 -- The guard for the MID (N19): what it refuses, and that with any other MID what stands after it decides, as if it were
 -- not there.
-use Rattle.std.proofs.Common.{◌≡◌, ℕ, Bool, true, false, List, ◌∷◌, sym, refl, ap, ◌∙◌, Result, Err}
+use Rattle.std.proofs.Common.{◌≡◌, ℕ, Bool, true, false, List, ◌∷◌, sym, refl, ap, ◌∙◌, Result, Ok, Err, arith}
 use Rattle.basis.specs.Rows.{Row, first_of}
 use Rattle.basis.proofs.Choices.{when_true, when_false}
-use Rattle.packet.specs.Mid.{is_forbidden, Allowed, mid_row, mid_or}
+use Rattle.packet.specs.Mid.{is_forbidden, Allowed, mid_row, mid_or, guard_of}
 use Rattle.packet.specs.Write.{Writes, answer_of, buffer_of}
 use Rattle.refusal.specs.declared.Refusal.{Refusal}
 use Rattle.refusal.specs.declared.Refusal.TheVariants.{ForbiddenMid}
@@ -25,6 +25,10 @@ module _ {A : Type 0} (mid : ℕ) (answer : Result A Refusal) where
       go : (t : Bool) → is_forbidden mid ≡ t → Allowed mid × (answer ≡ r)
       go true q = absurd (other (sym e ∙ guard_stops q))
       go false q = (q, sym (guard_passes q) ∙ e)
+
+-- a MID of which the guard says yes is not forbidden
+pub let_through : (mid : ℕ) (u : Unit) → Ok u ≡ guard_of mid → Allowed mid
+let_through mid u e = (guard_past mid (Ok tt) (Ok u) (sym e) (λ q. let z : ◌≡◌ {A = ℕ} 0 1 = cc in omega arith)).0
 
 module _ (mid : ℕ) (rows : List Row) where
   -- a forbidden MID is 19, whatever the other rows say

@@ -9,6 +9,6 @@ mod mid;
 mod sum;
 mod write;
 
-pub use mid::forbidden;
+pub use mid::{allowed, forbidden};
 pub use sum::{checksum, sum_of};
 pub use write::{write_packet, write_query, write_reset};

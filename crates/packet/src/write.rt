@@ -6,7 +6,7 @@ ghost use Rattle.packet.specs.Mid.{mid_row};
 ghost use Rattle.packet.specs.Wire.{sealed, packet_of, packet_at, query_of, reset_of};
 ghost use Rattle.packet.specs.Write.{Writes, short_by, packet_rows};
 
-use crate::mid::forbidden;
+use crate::mid::allowed;
 use crate::sum::{negated, sum_of};
 use refusal::Refusal;
 
@@ -87,9 +87,7 @@ pub fn write_packet(
 ) -> Result<usize, Refusal>
     ensures { Writes (mid_row mid ∷ packet_rows mid id body.now position out.old) (packet_at mid id body.now position) out.old result out.new }
 {
-    if forbidden(mid) {
-        return Err(Refusal::ForbiddenMid);
-    }
+    allowed(mid)?;
     write_at(mid, id, body, position, out)
 }
 
@@ -97,9 +95,7 @@ pub fn write_packet(
 fn write_special(mid: u8, id: u8, out: &mut [u8]) -> Result<usize, Refusal>
     ensures { Writes (mid_row mid ∷ short_by (packet_of mid id 0x10 []) out.old ∷ []) (packet_of mid id 0x10 []) out.old result out.new }
 {
-    if forbidden(mid) {
-        return Err(Refusal::ForbiddenMid);
-    }
+    allowed(mid)?;
     if out.len() < 7 {
         return Err(Refusal::NoRoom);
     }

@@ -2,7 +2,7 @@
 ghost use Rattle.std.specs.Prelude.{◌≡◌, ◌<◌, ◌≤◌};
 ghost use Rattle.reader.specs.Read.{fields_of, lowest_of, read_of};
 
-use packet::{forbidden, sum_of};
+use packet::{allowed, sum_of};
 use refusal::Refusal;
 
 // What a sign reads off the bytes that came.
@@ -111,11 +111,10 @@ fn lowest(mid: u8, bytes: &[u8]) -> Result<Packet, Refusal>
 }
 
 // What bytes off the line are to the sign of this MID.
+#[tactic(auto, unfolding(crate::specs::Read::read_of))]
 pub fn read_packet(mid: u8, bytes: &[u8]) -> Result<Packet, Refusal>
     ensures { result ≡ read_of mid bytes.now }
 {
-    if forbidden(mid) {
-        return Err(Refusal::ForbiddenMid);
-    }
+    allowed(mid)?;
     lowest(mid, bytes)
 }

@@ -4,7 +4,7 @@ ghost use Rattle.reply.specs.Reply.{heard_from, heard_of};
 
 use crate::Status;
 use crate::letters::{is_told, turned_mid};
-use packet::{forbidden, sum_of};
+use packet::{allowed, sum_of};
 use refusal::Refusal;
 
 // The reply of the sign with this MID, or 35; the MID is not judged here.
@@ -43,11 +43,10 @@ fn heard_from(mid: u8, bytes: &[u8]) -> Result<Status, Refusal>
 }
 
 // What a reply of the sign with this MID tells.
+#[tactic(auto, unfolding(crate::specs::Reply::heard_of))]
 pub fn read_reply(mid: u8, bytes: &[u8]) -> Result<Status, Refusal>
     ensures { result ≡ heard_of mid bytes.now }
 {
-    if forbidden(mid) {
-        return Err(Refusal::ForbiddenMid);
-    }
+    allowed(mid)?;
     heard_from(mid, bytes)
 }

@@ -6,7 +6,7 @@ ghost use Rattle.packet.specs.Write.{Writes};
 ghost use Rattle.reply.specs.Reply.{reply_rows};
 
 use crate::letters::{aux_letter, is_last, state_letter, turned_mid};
-use packet::{checksum, forbidden};
+use packet::{allowed, checksum};
 use refusal::Refusal;
 
 // Lays a reply of these fields; 32 for an ID that no sign completes, 34 for want of room. The MID is not judged here.
@@ -39,8 +39,6 @@ pub fn write_reply(
 ) -> Result<usize, Refusal>
     ensures { Writes (mid_row mid ∷ reply_rows mid last busy sink out.old) (reply_of mid last busy sink) out.old result out.new }
 {
-    if forbidden(mid) {
-        return Err(Refusal::ForbiddenMid);
-    }
+    allowed(mid)?;
     lay_reply(mid, last, busy, sink, out)
 }

@@ -5,7 +5,7 @@ ghost use Rattle.packet.specs.Mid.{Allowed, mid_row};
 ghost use Rattle.packet.specs.Wire.{transmission_of};
 ghost use Rattle.packet.specs.Write.{Writes, transmission_rows};
 
-use packet::{forbidden, write_packet};
+use packet::{allowed, write_packet};
 use refusal::Refusal;
 
 // All packets of a body, each laid into the buffer behind the one before, for a MID that is not forbidden.
@@ -39,8 +39,6 @@ fn write_all(mid: u8, id: u8, body: &[u8], out: &mut [u8]) -> Result<usize, Refu
 pub fn write_transmission(mid: u8, id: u8, body: &[u8], out: &mut [u8]) -> Result<usize, Refusal>
     ensures { Writes (mid_row mid ∷ transmission_rows mid id body.now out.old) (transmission_of mid id body.now) out.old result out.new }
 {
-    if forbidden(mid) {
-        return Err(Refusal::ForbiddenMid);
-    }
+    allowed(mid)?;
     write_all(mid, id, body, out)
 }

@@ -51,15 +51,17 @@ module _ (mid id : ℕ) (body out : List ℕ) (some : length body ≡ 0 → ⊥)
         refused (packet_rows mid id body position out) (packet_at mid id body position) out 33
         (packet_room ∙ ap (λ (b : Bool). when b 34 0) (lt-ltb (length out) (len + 7) short))
 
-    pub packet_wrote : (part after : List ℕ) → len + 7 ≤ length out
+    pub packet_wrote : (total : ℕ) (part after : List ℕ) → total ≡ total_of body → len + 7 ≤ length out
         → part ≡ take (14 * position + len - 14 * position) (drop (14 * position) body)
-        → after ≡ laid (packet_of mid id (fifth_of (total_of body) position) part) out
+        → after ≡ laid (packet_of mid id (fifth_of total position) part) out
         → Writes (packet_rows mid id body position out) (packet_at mid id body position) out (Ok (len + 7)) after
-    packet_wrote part after room ep ea =
+    packet_wrote total part after et room ep ea =
         wrote (packet_rows mid id body position out) (packet_at mid id body position) out (len + 7) after
         (packet_room ∙ ap (λ (b : Bool). when b 34 0) (le-ltb (length out) (len + 7) room))
         (sym packet_size)
-        (ea ∙ ap (λ (p : List ℕ). laid (packet_of mid id (fifth_of (total_of body) position) p) out) (ep ∙ part_cut body position len cut))
+        (ea
+        ∙ ap (λ (n : ℕ). laid (packet_of mid id (fifth_of n position) part) out) et
+        ∙ ap (λ (p : List ℕ). laid (packet_of mid id (fifth_of (total_of body) position) p) out) (ep ∙ part_cut body position len cut))
 
   -- and the same of a transmission
   transmission_room : first_of (transmission_rows mid id body out)
@@ -72,13 +74,14 @@ module _ (mid id : ℕ) (body out : List ℕ) (some : length body ≡ 0 → ⊥)
       refused (transmission_rows mid id body out) (transmission_of mid id body) out 33
       (transmission_room ∙ ap (λ (b : Bool). when b 34 0) (lt-ltb (length out) (7 * total_of body + length body) short))
 
-  pub transmission_wrote : (after : List ℕ) → 7 * total_of body + length body ≤ length out
+  pub transmission_wrote : (total : ℕ) (after : List ℕ) → total ≡ total_of body → 7 * total + length body ≤ length out
       → after ≡ laid (transmission_of mid id body) out
-      → Writes (transmission_rows mid id body out) (transmission_of mid id body) out (Ok (7 * total_of body + length body)) after
-  transmission_wrote after room ea =
-      wrote (transmission_rows mid id body out) (transmission_of mid id body) out (7 * total_of body + length body) after
-      (transmission_room ∙ ap (λ (b : Bool). when b 34 0) (le-ltb (length out) (7 * total_of body + length body) room))
-      (sym (transmission_length mid id body))
+      → Writes (transmission_rows mid id body out) (transmission_of mid id body) out (Ok (7 * total + length body)) after
+  transmission_wrote total after et room ea =
+      let fits : 7 * total_of body + length body ≤ length out = omega arith in
+      wrote (transmission_rows mid id body out) (transmission_of mid id body) out (7 * total + length body) after
+      (transmission_room ∙ ap (λ (b : Bool). when b 34 0) (le-ltb (length out) (7 * total_of body + length body) fits))
+      (ap (λ (n : ℕ). 7 * n + length body) et ∙ sym (transmission_length mid id body))
       ea
 
   module _ (f y : List ℕ) (position : ℕ) (allowed : Allowed mid) (below : position < total_of body) (room : 7 * total_of body + length body ≤ length out)

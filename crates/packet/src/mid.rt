@@ -11,7 +11,7 @@ pub fn forbidden(mid: u8) -> bool
     matches!(mid, 0 | 1 | 0x7e | 0x7f)
 }
 
-// Refuses a MID that no sign may have. What takes a sign's own MID asks this before all else.
+// Refuses a MID that no sign may have. Each call of the wire asks this of the sign's own MID first.
 pub fn allowed(mid: u8) -> Result<(), Refusal>
     ensures { result ≡ guard_of mid }
 {

@@ -1,14 +1,23 @@
 // Writes one packet of a body, a query or a reset into a lent buffer: W1 to W6, W13 to W15, W17 and W18, with N19 and N31
 // to N34. A refusal changes no byte, and bytes after the written ones stay.
-ghost use Rattle.std.specs.Prelude.{◌≡◌, ◌+◌, ◌%◌, ◌≤◌, [], ◌∷◌, length, take};
+ghost use Rattle.std.specs.Prelude.{◌≡◌, ◌+◌, ◌%◌, ◌≤◌, [], ◌∷◌, length, take, OnOk};
 ghost use Rattle.basis.specs.Bytes.{sum, laid};
 ghost use Rattle.packet.specs.Mid.{mid_row};
 ghost use Rattle.packet.specs.Wire.{sealed, packet_of, packet_at, query_of, reset_of};
-ghost use Rattle.packet.specs.Write.{Writes, short_by, packet_rows};
+ghost use Rattle.packet.specs.Write.{CanBeSent, Writes, packet_rows, short_by, total_or};
 
 use crate::mid::allowed;
 use crate::sum::{negated, sum_of};
 use refusal::Refusal;
+
+// The data bytes of a full packet (W5).
+pub const FULL: usize = 14;
+
+// The bytes of a packet around its data: five in front, two behind (W2).
+pub const AROUND: usize = 7;
+
+// The most bytes of a body: six full packets.
+const LONGEST: usize = 84;
 
 // Ends the first `at` bytes of the buffer with 00h and their checksum; their sum is told, so that they are not read again.
 fn seal(total: u8, at: usize, out: &mut [u8])
@@ -39,7 +48,7 @@ fn write_fields(mid: u8, id: u8, fifth: u8, part: &[u8], out: &mut [u8])
     ensures { out.new ≡ laid (packet_of mid id fifth part.now) out.old }
 {
     let len = part.len();
-    let count = (len + 7) as u8;
+    let count = (len + AROUND) as u8;
     let front = [mid, 0x7f, count, id, fifth];
     out[..5].copy_from_slice(&front);
     let ahead = sum_of(&front);
@@ -47,34 +56,39 @@ fn write_fields(mid: u8, id: u8, fifth: u8, part: &[u8], out: &mut [u8])
     seal(ahead.wrapping_add(data), len + 5, out);
 }
 
-// The packet at one position of a body, for a MID that is not judged here.
-fn write_at(mid: u8, id: u8, body: &[u8], position: u8, out: &mut [u8]) -> Result<usize, Refusal>
-    ensures { Writes (packet_rows mid id body.now position out.old) (packet_at mid id body.now position) out.old result out.new }
+// How many packets a body has, if it and its ID can be sent.
+pub fn total(id: u8, body: &[u8]) -> Result<usize, Refusal>
+    ensures result { result ≡ total_or id body.now }
+    ensures can { OnOk result (CanBeSent id body.now) }
 {
     let n = body.len();
-    if n == 0 {
-        return Err(Refusal::WrongBody);
-    }
-    if 84 < n {
+    if n == 0 || LONGEST < n {
         return Err(Refusal::WrongBody);
     }
     if 0x3f < id {
         return Err(Refusal::WrongId);
     }
-    let total = (n + 13) / 14;
+    Ok(n.div_ceil(FULL))
+}
+
+// The packet at one position of a body, for a MID that is not judged here.
+fn write_at(mid: u8, id: u8, body: &[u8], position: u8, out: &mut [u8]) -> Result<usize, Refusal>
+    ensures { Writes (packet_rows mid id body.now position out.old) (packet_at mid id body.now position) out.old result out.new }
+{
+    let total = total(id, body)?;
     let at = position as usize;
     if total <= at {
         return Err(Refusal::NoPosition);
     }
-    let from = 14 * at;
-    let len = (n - from).min(14);
+    let from = FULL * at;
+    let len = (body.len() - from).min(FULL);
     let to = from + len;
-    if out.len() < len + 7 {
+    if out.len() < len + AROUND {
         return Err(Refusal::NoRoom);
     }
     let fifth = 16 * total as u8 + position;
     write_fields(mid, id, fifth, &body[from..to], out);
-    Ok(len + 7)
+    Ok(len + AROUND)
 }
 
 // The packet at one position of a body.
@@ -96,14 +110,15 @@ fn write_special(mid: u8, id: u8, out: &mut [u8]) -> Result<usize, Refusal>
     ensures { Writes (mid_row mid ∷ short_by (packet_of mid id 0x10 []) out.old ∷ []) (packet_of mid id 0x10 []) out.old result out.new }
 {
     allowed(mid)?;
-    if out.len() < 7 {
+    if out.len() < AROUND {
         return Err(Refusal::NoRoom);
     }
     write_fields(mid, id, 0x10, b"", out);
-    Ok(7)
+    Ok(AROUND)
 }
 
-// The packet that asks the sign of this MID for its status.
+// The packet that asks the sign of this MID for its status. It and `write_reset` stay two calls, each a line over
+// `write_special`, because the rules name two and C has a call for each.
 pub fn write_query(mid: u8, out: &mut [u8]) -> Result<usize, Refusal>
     ensures { Writes (mid_row mid ∷ short_by (query_of mid) out.old ∷ []) (query_of mid) out.old result out.new }
 {

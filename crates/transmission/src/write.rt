@@ -5,7 +5,7 @@ ghost use Rattle.packet.specs.Mid.{Allowed, mid_row};
 ghost use Rattle.packet.specs.Wire.{transmission_of};
 ghost use Rattle.packet.specs.Write.{Writes, transmission_rows};
 
-use packet::{allowed, write_packet};
+use packet::{AROUND, FULL, allowed, total, write_packet};
 use refusal::Refusal;
 
 // All packets of a body, each laid into the buffer behind the one before, for a MID that is not forbidden.
@@ -13,23 +13,13 @@ fn write_all(mid: u8, id: u8, body: &[u8], out: &mut [u8]) -> Result<usize, Refu
     requires { Allowed mid }
     ensures { Writes (transmission_rows mid id body.now out.old) (transmission_of mid id body.now) out.old result out.new }
 {
-    let n = body.len();
-    if n == 0 {
-        return Err(Refusal::WrongBody);
-    }
-    if 84 < n {
-        return Err(Refusal::WrongBody);
-    }
-    if 0x3f < id {
-        return Err(Refusal::WrongId);
-    }
-    let total = (n + 13) / 14;
-    let size = 7 * total + n;
+    let total = total(id, body)?;
+    let size = AROUND * total + body.len();
     if out.len() < size {
         return Err(Refusal::NoRoom);
     }
     for position in 0..total {
-        let at = 21 * position;
+        let at = (FULL + AROUND) * position;
         write_packet(mid, id, body, position as u8, &mut out[at..])?;
     }
     Ok(size)

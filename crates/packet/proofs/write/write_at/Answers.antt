@@ -21,6 +21,8 @@ returns c =
     c.min-len.ensures
     _
     _
+    _
+    (search rules)
     (search rules)
     refl
     c.write_fields.ensures

@@ -43,6 +43,7 @@ pub returns : goal.returns
 returns c =
     let a = c.args in
     let l = c.loop-position in
+    let same : c.in_ok-total.total ≡ total_of a.body.now = search rules in
     let all : l.position ≡ total_of a.body.now = omega arith in
-    transmission_wrote a.mid a.id a.body.now a.out.now (search rules) (search rules) (search rules) l.out (search rules)
+    transmission_wrote a.mid a.id a.body.now a.out.now (search rules) (search rules) (search rules) _ l.out same (search rules)
     (l.invariant.0 ∙ ap (λ (n : ℕ). laid (packets_of a.mid a.id a.body.now n) a.out.now) all)

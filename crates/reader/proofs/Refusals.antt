@@ -15,7 +15,7 @@ use Rattle.refusal.specs.declared.Refusal.{Refusal}
 use Rattle.packet.specs.Mid.{is_forbidden, Allowed, mid_row}
 use Rattle.packet.specs.Wire.{reply_of}
 use Rattle.packet.proofs.Guards.{mid_stops, mid_passes}
-use Rattle.reader.specs.Read.{lowest_of, read_of, rows_of, named, Lowest}
+use Rattle.reader.specs.Read.{lowest_of, read_of, rows_of, reading_of, Lowest}
 use Rattle.reader.specs.declared.read.Packet.{Packet}
 use Rattle.reader.proofs.Guard.{read_stops, read_passes}
 use Rattle.reader.proofs.Unique.{table_rises}
@@ -34,7 +34,7 @@ by_table : (mid : ℕ) (b : List ℕ) (e : Refusal) → lowest_of mid b ≡ Err 
 unfolding lowest_of
 by_table mid b e q =
     let rows = rows_of mid b in
-    let r = refused_by (first_of rows) (named (get_or b 3 0) (get_or b 4 0) (length b)) e q in
+    let r = refused_by (first_of rows) (reading_of (get_or b 3 0) (get_or b 4 0) (length b)) e q in
     let n : first_of rows ≡ number_of e = sym (first_named rows (table_named mid b) r.0) ∙ ap number_of r.1 in
     record {
       holds = given_applies rows (number_of e) n (number_some e);
@@ -49,7 +49,7 @@ refused_where : (mid : ℕ) (b : List ℕ) (j : ℕ) → applies j (rows_of mid 
     → lowest_of mid b ≡ Err (refusal_of (first_of (rows_of mid b)))
 unfolding lowest_of
 refused_where mid b j a =
-    go (first_of (rows_of mid b)) (lowest_given (rows_of mid b) 0 j (table_rises mid b) a).0 (named (get_or b 3 0) (get_or b 4 0) (length b))
+    go (first_of (rows_of mid b)) (lowest_given (rows_of mid b) 0 j (table_rises mid b) a).0 (reading_of (get_or b 3 0) (get_or b 4 0) (length b))
   where
     go : (n : ℕ) → 0 < n → (r : Packet) → refused_or n r ≡ Err (refusal_of n)
     go zero h r = absurd (omega arith)

@@ -19,7 +19,7 @@ use Rattle.refusal.specs.Refusal.{refused_or}
 use Rattle.refusal.specs.declared.Refusal.{Refusal}
 use Rattle.packet.proofs.Seals.{only_seal}
 use Rattle.packet.specs.Wire.{sealed, fifth_of, front_of, packet_of, query_of, reset_of}
-use Rattle.reader.specs.Read.{lowest_of, read_of, rows_of, field_rows, named, wrong_place}
+use Rattle.reader.specs.Read.{lowest_of, read_of, rows_of, field_rows, reading_of, wrong_place}
 use Rattle.reader.specs.declared.read.Packet.{Packet}
 use Rattle.reader.specs.declared.read.Packet.TheVariants.{Query, Reset, Normal}
 use Rattle.reader.proofs.Guard.{read_past}
@@ -90,13 +90,13 @@ answered (suc n) a r e = let z : ◌≡◌ {A = ℕ} 0 1 = cc in absurd (omega a
 
 -- so its MID passed the guard, and its packet the whole table
 pub passed : (mid : ℕ) (b : List ℕ) (r : Packet) → read_of mid b ≡ Ok r
-    → (first_of (rows_of mid b) ≡ 0) × (named (get_or b 3 0) (get_or b 4 0) (length b) ≡ r)
+    → (first_of (rows_of mid b) ≡ 0) × (reading_of (get_or b 3 0) (get_or b 4 0) (length b) ≡ r)
 unfolding lowest_of
 passed mid b r e =
     let past = read_past mid b (Ok r) e (λ q. let z : ◌≡◌ {A = ℕ} 0 1 = cc in omega arith) in
-    answered (first_of (rows_of mid b)) (named (get_or b 3 0) (get_or b 4 0) (length b)) r past.1
+    answered (first_of (rows_of mid b)) (reading_of (get_or b 3 0) (get_or b 4 0) (length b)) r past.1
 
--- the fields that were named are those of the bytes
+-- the fields that were read are those of the bytes
 fields_are : (t u : Bool) (id fifth len i n p l : ℕ)
     → when t (Normal id (fifth / 16) (fifth % 16) (len - 7)) (when u Query Reset) ≡ Normal i n p l
     → (id ≡ i) × ((fifth ≡ fifth_of n p) × (len - 7 ≡ l))

@@ -41,16 +41,16 @@ rows_of mid b =
     ∷ field_rows (get_or b 3 0) (get_or b 4 0) (length b)
 
 -- what the ID makes of a packet that nothing refuses
-abbrev pub named : ℕ → ℕ → ℕ → Packet
-named id fifth len = when (is_normal id) (Normal id (fifth / 16) (fifth % 16) (len - 7)) (when (eqb id 0x40) Query Reset)
+abbrev pub reading_of : ℕ → ℕ → ℕ → Packet
+reading_of id fifth len = when (is_normal id) (Normal id (fifth / 16) (fifth % 16) (len - 7)) (when (eqb id 0x40) Query Reset)
 
 -- the answer by the fields alone
 abbrev pub fields_of : ℕ → ℕ → ℕ → Result Packet Refusal
-fields_of id fifth len = refused_or (first_of (field_rows id fifth len)) (named id fifth len)
+fields_of id fifth len = refused_or (first_of (field_rows id fifth len)) (reading_of id fifth len)
 
 -- the lowest number that applies, or the packet's kind and fields: what a sign reads whose MID is not judged
 unfoldable pub lowest_of : ℕ → List ℕ → Result Packet Refusal
-lowest_of mid b = refused_or (first_of (rows_of mid b)) (named (get_or b 3 0) (get_or b 4 0) (length b))
+lowest_of mid b = refused_or (first_of (rows_of mid b)) (reading_of (get_or b 3 0) (get_or b 4 0) (length b))
 
 -- what a sign reads: 19 for a forbidden MID, a guard that is no row of the table
 unfoldable pub read_of : ℕ → List ℕ → Result Packet Refusal

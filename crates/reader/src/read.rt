@@ -2,7 +2,7 @@
 ghost use Rattle.std.specs.Prelude.{◌≡◌, ◌<◌, ◌≤◌};
 ghost use Rattle.reader.specs.Read.{fields_of, lowest_of, read_of};
 
-use packet::{allowed, sum_of};
+use packet::{AROUND, FULL, allowed, sum_of};
 use refusal::Refusal;
 
 // What a sign reads off the bytes that came.
@@ -24,16 +24,16 @@ fn read_special(id: u8, fifth: u8, len: usize) -> Result<Packet, Refusal>
     requires { (0x3F < id) × (7 ≤ len) }
     ensures { result ≡ fields_of id fifth len }
 {
-    if 7 < len {
+    if AROUND < len {
         return Err(Refusal::WrongSize);
     }
     if fifth != 0x10 {
         return Err(Refusal::WrongPlace);
     }
-    if id == 0x40 {
-        return Ok(Packet::Query);
+    match id {
+        0x40 => Ok(Packet::Query),
+        _ => Ok(Packet::Reset),
     }
-    Ok(Packet::Reset)
 }
 
 // The fields behind the frame, once the frame is right: numbers 9 to 11.
@@ -41,33 +41,19 @@ fn read_fields(id: u8, fifth: u8, len: usize) -> Result<Packet, Refusal>
     requires { 7 ≤ len }
     ensures { result ≡ fields_of id fifth len }
 {
-    let total = fifth / 16;
-    let position = fifth % 16;
     if 0x3f < id {
         return read_special(id, fifth, len);
     }
-    if len == 7 {
+    if len == AROUND {
         return Err(Refusal::WrongSize);
     }
-    if total < 1 {
+    let total = fifth / 16;
+    let position = fifth % 16;
+    if total < 1 || 6 < total || total <= position {
         return Err(Refusal::WrongPlace);
     }
-    if 6 < total {
-        return Err(Refusal::WrongPlace);
-    }
-    if total <= position {
-        return Err(Refusal::WrongPlace);
-    }
-    let len = len - 7;
-    if total <= position + 1 {
-        return Ok(Packet::Normal {
-            id,
-            total,
-            position,
-            len,
-        });
-    }
-    if len < 14 {
+    let len = len - AROUND;
+    if position + 1 < total && len < FULL {
         return Err(Refusal::ShortPart);
     }
     Ok(Packet::Normal {
@@ -79,35 +65,36 @@ fn read_fields(id: u8, fifth: u8, len: usize) -> Result<Packet, Refusal>
 }
 
 // The packet's kind and fields, or the lowest number that applies, for a MID that is not judged here.
+#[tactic(auto, using(basis::proofs::Tests::tests), unfolding(crate::specs::Read::lowest_of))]
 fn lowest(mid: u8, bytes: &[u8]) -> Result<Packet, Refusal>
     ensures { result ≡ lowest_of mid bytes.now }
 {
-    let n = bytes.len();
-    if n < 7 {
+    let &[to, mark, count, id, fifth, .., end, _] = bytes else {
         return Err(Refusal::TooFewBytes);
-    }
-    if 21 < n {
+    };
+    let n = bytes.len();
+    if FULL + AROUND < n {
         return Err(Refusal::TooManyBytes);
     }
-    if bytes[2] as usize != n {
+    if count as usize != n {
         return Err(Refusal::WrongCount);
     }
     if sum_of(bytes) != 0 {
         return Err(Refusal::WrongChecksum);
     }
-    if bytes[0] != mid {
+    if to != mid {
         return Err(Refusal::OtherMid);
     }
-    if bytes[1] != 0x7f {
+    if mark != 0x7f {
         return Err(Refusal::WrongMark);
     }
-    if bytes[n - 2] != 0 {
+    if end != 0 {
         return Err(Refusal::WrongEnd);
     }
-    if 0x41 < bytes[3] {
+    if 0x41 < id {
         return Err(Refusal::UnknownId);
     }
-    read_fields(bytes[3], bytes[4], n)
+    read_fields(id, fifth, n)
 }
 
 // What bytes off the line are to the sign of this MID.

@@ -1,5 +1,5 @@
 -- The sign's reply to a query: what it may carry (W10), how it is read (W12, N19, N35), and what refuses to write it (W18).
-use Rattle.std.specs.Prelude.{ℕ, ◌%◌, List, [], ◌∷◌, Bool, not, length, get_or, eqb, leb, Result, Ok, Err}
+use Rattle.std.specs.Prelude.{ℕ, ◌%◌, List, [], ◌∷◌, Bool, true, false, not, length, get_or, eqb, leb, Option, Some, None, Result, Ok, Err}
 use Rattle.basis.specs.Bytes.{sum}
 use Rattle.basis.specs.Choice.{when, ◌and◌, ◌or◌}
 use Rattle.basis.specs.Rows.{Row, ◌if◌}
@@ -29,6 +29,10 @@ is_reply mid b =
 -- the three bytes that tell: last ID, `B` or `R`, `S` or `F`
 abbrev pub is_told : ℕ → ℕ → ℕ → Bool
 is_told last state aux = is_last last and (eqb state 0x42 or eqb state 0x52) and (eqb aux 0x53 or eqb aux 0x46)
+
+-- what one letter of two says: the first yes, the other no
+abbrev pub said_by : (one other letter : ℕ) → Option Bool
+said_by one other letter = when (eqb letter one) (Some true) (when (eqb letter other) (Some false) None)
 
 -- a reply that tells these three
 abbrev pub status : (last : ℕ) → (busy sink : Bool) → Result Status Refusal

@@ -3,43 +3,25 @@ ghost use Rattle.std.specs.Prelude.{◌≡◌};
 ghost use Rattle.reply.specs.Reply.{heard_from, heard_of};
 
 use crate::Status;
-use crate::letters::{is_told, turned_mid};
+use crate::letters::{busy, is_last, sink, turned_mid};
 use packet::{allowed, sum_of};
 use refusal::Refusal;
 
 // The reply of the sign with this MID, or 35; the MID is not judged here.
+#[tactic(auto, using(basis::proofs::Tests::tests), unfolding(crate::specs::Reply::heard_from))]
 fn heard_from(mid: u8, bytes: &[u8]) -> Result<Status, Refusal>
     ensures { result ≡ heard_from mid bytes.now }
 {
-    if bytes.len() != 8 {
+    let &[from, 0x7f, 8, last, state, aux, 0, _] = bytes else {
+        return Err(Refusal::NoReply);
+    };
+    if sum_of(bytes) != 0 || from != turned_mid(mid) || !is_last(last) {
         return Err(Refusal::NoReply);
     }
-    if sum_of(bytes) != 0 {
+    let (Some(busy), Some(sink)) = (busy(state), sink(aux)) else {
         return Err(Refusal::NoReply);
-    }
-    if bytes[0] != turned_mid(mid) {
-        return Err(Refusal::NoReply);
-    }
-    if bytes[1] != 0x7f {
-        return Err(Refusal::NoReply);
-    }
-    if bytes[2] != 8 {
-        return Err(Refusal::NoReply);
-    }
-    if bytes[6] != 0 {
-        return Err(Refusal::NoReply);
-    }
-    let last = bytes[3];
-    let state = bytes[4];
-    let aux = bytes[5];
-    if !is_told(last, state, aux) {
-        return Err(Refusal::NoReply);
-    }
-    Ok(Status {
-        last,
-        busy: state == b'B',
-        sink: aux == b'S',
-    })
+    };
+    Ok(Status { last, busy, sink })
 }
 
 // What a reply of the sign with this MID tells.

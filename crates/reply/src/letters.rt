@@ -1,8 +1,7 @@
 // What stands in a reply: which last IDs, the MID and the two letters (W10, W11).
-ghost use Rattle.std.specs.Prelude.{◌≡◌, eqb};
-ghost use Rattle.basis.specs.Choice.{◌and◌, ◌or◌};
+ghost use Rattle.std.specs.Prelude.{◌≡◌};
 ghost use Rattle.packet.specs.Wire.{turned, state_of, aux_of};
-ghost use Rattle.reply.specs.Reply.{is_last, is_told};
+ghost use Rattle.reply.specs.Reply.{is_last, said_by};
 
 // Whether a sign can have completed this ID last.
 pub(crate) fn is_last(id: u8) -> bool
@@ -32,16 +31,24 @@ pub(crate) fn aux_letter(sink: bool) -> u8
     if sink { b'S' } else { b'F' }
 }
 
-// Whether a byte is one of two letters.
-fn is_either(x: u8, one: u8, other: u8) -> bool
-    ensures { result ≡ (eqb x one or eqb x other) }
+// Whether a letter says Busy, if it is one of the two for Busy and Ready.
+pub(crate) fn busy(letter: u8) -> Option<bool>
+    ensures { result ≡ said_by 0x42 0x52 letter }
 {
-    x == one || x == other
+    match letter {
+        b'B' => Some(true),
+        b'R' => Some(false),
+        _ => None,
+    }
 }
 
-// Whether three bytes are a last ID and the two letters.
-pub(crate) fn is_told(last: u8, state: u8, aux: u8) -> bool
-    ensures { result ≡ is_told last state aux }
+// Whether a letter says sunk, if it is one of the two for the AUX pin.
+pub(crate) fn sink(letter: u8) -> Option<bool>
+    ensures { result ≡ said_by 0x53 0x46 letter }
 {
-    is_last(last) && is_either(state, b'B', b'R') && is_either(aux, b'S', b'F')
+    match letter {
+        b'S' => Some(true),
+        b'F' => Some(false),
+        _ => None,
+    }
 }

@@ -9,7 +9,7 @@ ghost use Rattle.cabi.specs.Calls.{Tells, read_no, read_answer, reply_no, reply_
 use crate::loaded::short_for;
 use packet::{write_packet, write_query, write_reset};
 use reader::read_packet;
-use reply::{read_reply, write_reply};
+use reply::{Status, read_reply, write_reply};
 use transmission::write_transmission;
 use words::{tell_reading, tell_status, tell_written};
 
@@ -74,5 +74,10 @@ pub extern "C" fn yd_write_transmission(mid: u8, id: u8, body: &[u8], out: &mut 
 pub extern "C" fn yd_write_reply(mid: u8, last: u8, busy: u8, sink: u8, out: &mut [u8]) -> u32
     ensures { Tells (mid_row mid ∷ reply_rows mid last (not (eqb busy 0)) (not (eqb sink 0)) out.old) (reply_of mid last (not (eqb busy 0)) (not (eqb sink 0))) out.old result out.new }
 {
-    tell_written(write_reply(mid, last, busy != 0, sink != 0, out))
+    let status = Status {
+        last,
+        busy: busy != 0,
+        sink: sink != 0,
+    };
+    tell_written(write_reply(mid, status, out))
 }

@@ -118,7 +118,7 @@ is_transmit κs a r s h = is_left _ _ _ _ _ (refl, (refl, (refl, (refl, tt)))) h
 -- a reply of given fields is written as `ours` writes it
 pub is_answer : (κs : Lifetimes.Lfts 1) (a : World.ArgsD write_reply.signature κs) (r : World.ResD write_reply.signature κs)
     (s : Clauses.AtExit (K.ended_of 1 write_reply_kinds.ps write_reply_kinds.r) κs) → write_reply_reads.Post κs a r s
-    → wrote_in r s.1.1.1.1.0.now ≡ ours.answer a.0 a.1.0 a.1.1.0 a.1.1.1.0 a.1.1.1.1.0.now
+    → wrote_in r s.1.1.0.now ≡ ours.answer a.0 a.1.0.last a.1.0.busy a.1.0.sink a.1.1.0.now
 is_answer κs a r s h = is_left _ _ _ _ _ (refl, (refl, (refl, tt))) h
 
 -- a body is judged as `ours` judges it

@@ -32,6 +32,12 @@ use Rattle.reply.proofs.write_reply.Reads as reply_write_reply_reads
 use Rattle.packet.specs.contracts.forbidden as packet_forbidden
 use Rattle.packet.proofs.forbidden.Kinds as packet_forbidden_kinds
 use Rattle.packet.proofs.forbidden.Reads as packet_forbidden_reads
+use Rattle.packet.specs.contracts.allowed as packet_allowed
+use Rattle.packet.proofs.allowed.Kinds as packet_allowed_kinds
+use Rattle.packet.proofs.allowed.Reads as packet_allowed_reads
+use Rattle.packet.specs.contracts.total as packet_total
+use Rattle.packet.proofs.total.Kinds as packet_total_kinds
+use Rattle.packet.proofs.total.Reads as packet_total_reads
 use Rattle.packet.specs.contracts.sum_of as packet_sum_of
 use Rattle.packet.proofs.sum_of.Kinds as packet_sum_of_kinds
 use Rattle.packet.proofs.sum_of.Reads as packet_sum_of_reads
@@ -277,12 +283,20 @@ one_reply_read_reply κs a r r' s s' h h' = one h h'
 
 pub one_reply_write_reply : (κs : Lifetimes.Lfts 1) (a : World.ArgsD reply_write_reply.signature κs) (r r' : World.ResD reply_write_reply.signature κs)
     (s s' : Clauses.AtExit (K.ended_of 1 reply_write_reply_kinds.ps reply_write_reply_kinds.r) κs) → reply_write_reply_reads.Post κs a r s → reply_write_reply_reads.Post κs a r' s'
-    → (r ≡ r') × (s.1.1.1.1.0.now ≡ s'.1.1.1.1.0.now)
+    → (r ≡ r') × (s.1.1.0.now ≡ s'.1.1.0.now)
 one_reply_write_reply κs a r r' s s' h h' = (one h.answered h'.answered, one h.left h'.left)
 
 pub one_packet_forbidden : (κs : Lifetimes.Lfts 0) (a : World.ArgsD packet_forbidden.signature κs) (r r' : World.ResD packet_forbidden.signature κs)
     (s s' : Clauses.AtExit (K.ended_of 0 packet_forbidden_kinds.ps packet_forbidden_kinds.r) κs) → packet_forbidden_reads.Post κs a r s → packet_forbidden_reads.Post κs a r' s' → r ≡ r'
 one_packet_forbidden κs a r r' s s' h h' = one h h'
+
+pub one_packet_allowed : (κs : Lifetimes.Lfts 0) (a : World.ArgsD packet_allowed.signature κs) (r r' : World.ResD packet_allowed.signature κs)
+    (s s' : Clauses.AtExit (K.ended_of 0 packet_allowed_kinds.ps packet_allowed_kinds.r) κs) → packet_allowed_reads.Post κs a r s → packet_allowed_reads.Post κs a r' s' → r ≡ r'
+one_packet_allowed κs a r r' s s' h h' = one h h'
+
+pub one_packet_total : (κs : Lifetimes.Lfts 1) (a : World.ArgsD packet_total.signature κs) (r r' : World.ResD packet_total.signature κs)
+    (s s' : Clauses.AtExit (K.ended_of 1 packet_total_kinds.ps packet_total_kinds.r) κs) → packet_total_reads.Post κs a r s → packet_total_reads.Post κs a r' s' → r ≡ r'
+one_packet_total κs a r r' s s' h h' = one h.result h'.result
 
 pub one_packet_sum_of : (κs : Lifetimes.Lfts 1) (a : World.ArgsD packet_sum_of.signature κs) (r r' : World.ResD packet_sum_of.signature κs)
     (s s' : Clauses.AtExit (K.ended_of 1 packet_sum_of_kinds.ps packet_sum_of_kinds.r) κs) → packet_sum_of_reads.Post κs a r s → packet_sum_of_reads.Post κs a r' s' → r ≡ r'

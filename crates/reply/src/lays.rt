@@ -5,24 +5,25 @@ ghost use Rattle.packet.specs.Wire.{reply_of};
 ghost use Rattle.packet.specs.Write.{Writes};
 ghost use Rattle.reply.specs.Reply.{reply_rows};
 
+use crate::Status;
 use crate::letters::{aux_letter, is_last, state_letter, turned_mid};
 use packet::{allowed, checksum};
 use refusal::Refusal;
 
-// Lays a reply of these fields; 32 for an ID that no sign completes, 34 for want of room. The MID is not judged here.
-fn lay_reply(mid: u8, last: u8, busy: bool, sink: bool, out: &mut [u8]) -> Result<usize, Refusal>
-    ensures { Writes (reply_rows mid last busy sink out.old) (reply_of mid last busy sink) out.old result out.new }
+// Lays a reply that tells this; 32 for an ID that no sign completes, 34 for want of room. The MID is not judged here.
+fn lay_reply(mid: u8, status: Status, out: &mut [u8]) -> Result<usize, Refusal>
+    ensures { Writes (reply_rows mid status.last status.busy status.sink out.old) (reply_of mid status.last status.busy status.sink) out.old result out.new }
 {
-    if !is_last(last) {
+    if !is_last(status.last) {
         return Err(Refusal::WrongId);
     }
     if out.len() < 8 {
         return Err(Refusal::NoRoom);
     }
     let from = turned_mid(mid);
-    let state = state_letter(busy);
-    let aux = aux_letter(sink);
-    let front = [from, 0x7f, 8, last, state, aux];
+    let state = state_letter(status.busy);
+    let aux = aux_letter(status.sink);
+    let front = [from, 0x7f, 8, status.last, state, aux];
     out[..6].copy_from_slice(&front);
     out[6] = 0;
     out[7] = checksum(&front);
@@ -30,15 +31,9 @@ fn lay_reply(mid: u8, last: u8, busy: bool, sink: bool, out: &mut [u8]) -> Resul
 }
 
 // Lays a reply of the sign with this MID.
-pub fn write_reply(
-    mid: u8,
-    last: u8,
-    busy: bool,
-    sink: bool,
-    out: &mut [u8],
-) -> Result<usize, Refusal>
-    ensures { Writes (mid_row mid ∷ reply_rows mid last busy sink out.old) (reply_of mid last busy sink) out.old result out.new }
+pub fn write_reply(mid: u8, status: Status, out: &mut [u8]) -> Result<usize, Refusal>
+    ensures { Writes (mid_row mid ∷ reply_rows mid status.last status.busy status.sink out.old) (reply_of mid status.last status.busy status.sink) out.old result out.new }
 {
     allowed(mid)?;
-    lay_reply(mid, last, busy, sink, out)
+    lay_reply(mid, status, out)
 }

@@ -12,7 +12,7 @@ mod letters;
 pub use hears::read_reply;
 pub use lays::write_reply;
 
-// What the sender hears of a sign: last completed ID, Busy or Ready, AUX sunk or floating.
+// What a reply tells of a sign: last completed ID, Busy or Ready, AUX sunk or floating.
 #[derive(Clone, Copy, Debug, PartialEq, Eq)]
 pub struct Status {
     pub last: u8,

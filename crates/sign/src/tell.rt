@@ -5,7 +5,7 @@ ghost use Rattle.sign.specs.Tell.{says_of, running_body, says_rows, copy_rows};
 
 use crate::Sign;
 use refusal::Refusal;
-use reply::write_reply;
+use reply::{Status, write_reply};
 
 impl Sign {
     // Writes the reply to a query, with the AUX pin as the caller reads it.
@@ -15,8 +15,12 @@ impl Sign {
         if !self.sound() {
             return Err(Refusal::Unsound);
         }
-        let busy = self.run.len != 0;
-        write_reply(mid, self.completed.last(), busy, aux, out)
+        let status = Status {
+            last: self.completed.last(),
+            busy: self.run.len != 0,
+            sink: aux,
+        };
+        write_reply(mid, status, out)
     }
 
     // Copies the running body to the buffer's front, and tells its length.

@@ -13,7 +13,7 @@ pub returns : goal.returns
 returns c =
     let a = c.args in
     let known = sym c.is_last.ensures ∙ c.if-not-is_last.false in
-    reply_wrote a.mid a.last a.busy a.sink a.out.now _ c.turned_mid-from.result
+    reply_wrote a.mid a.status.last a.status.busy a.status.sink a.out.now _ c.turned_mid-from.result
     c.state_letter-state.result
     c.aux_letter-aux.result
     c.checksum.result

@@ -2,14 +2,14 @@
 -- that is not closed (N26).
 use Rattle.std.specs.Prelude.{ℕ, List, [], ◌∷◌, Bool, true, false, eqb, ltb, length, get_or, Result, Ok, Err}
 use Rattle.basis.specs.Choice.{when}
-use Rattle.basis.specs.Told.{Told, yes, no_at}
+use Rattle.basis.specs.Told.{Told}
 use Rattle.params.specs.Bytes.{caret}
 use Rattle.loops.specs.Token.{Tok, tokens_of}
 use Rattle.loops.specs.Structure.{Move, stop, go, move_of}
 use Rattle.loops.specs.declared.Open.{Open}
 use Rattle.judge.specs.declared.Ending.{Ending}
 use Rattle.judge.specs.declared.Ending.TheVariants.{Finite, Endless}
-use Rattle.refusal.specs.Refusal.{number_of, fault}
+use Rattle.refusal.specs.Refusal.{fault, told_at}
 use Rattle.refusal.specs.declared.Fault.{Fault}
 
 -- a body judged: how it goes, or why it is refused and where
@@ -49,8 +49,11 @@ judge_of b =
     when (ltb 84 (length b)) (Err (fault 28 84))
     (when (eqb (get_or b 0 0) caret) (commands_of b) (Err (fault 21 0)))
 
--- the verdict in the rules' numbers: 1 for an endless program, 0 for one that ends; or the refusal's number and place
+-- 1 for an endless program, 0 for one that ends
+abbrev pub values_of : Ending → List ℕ
+values_of Finite = 0 ∷ []
+values_of Endless = 1 ∷ []
+
+-- the verdict in the rules' numbers: how the program goes, or the refusal's number and place
 abbrev pub told_of : Verdict → Told
-told_of (Ok Finite) = yes (0 ∷ [])
-told_of (Ok Endless) = yes (1 ∷ [])
-told_of (Err w) = no_at (number_of w.refusal) w.place
+told_of = told_at values_of

@@ -2,7 +2,7 @@
 -- Rules S22 to S26 for the sums, S32 for the settings, N17 before what judging refuses.
 use Rattle.std.specs.Prelude.{ℕ, zero, suc, ◌+◌, List, [], ◌∷◌, Bool, not, eqb, length, Result, Ok, Err, Option, Some, None}
 use Rattle.basis.specs.Choice.{when, ◌and◌, within}
-use Rattle.basis.specs.Told.{Told, yes, no_at}
+use Rattle.basis.specs.Told.{Told}
 use Rattle.refusal.specs.declared.Refusal.{Refusal}
 use Rattle.units.specs.Units.{capped}
 use Rattle.perform.specs.declared.settings.Settings.{Settings}
@@ -21,7 +21,7 @@ use Rattle.machine.specs.declared.Run.{Run}
 use Rattle.reckon.specs.declared.reckon.Foretold.{Foretold}
 use Rattle.reckon.specs.declared.reckon.Foretold.TheVariants.{Ends, Endless as Never}
 use Rattle.totals.specs.declared.Totals.{Totals}
-use Rattle.refusal.specs.Refusal.{number_of, fault}
+use Rattle.refusal.specs.Refusal.{fault, told_at}
 
 -- a measure of what a step answered
 abbrev pub measured : (Performed → ℕ) → Result (Option Performed) Refusal → ℕ
@@ -83,9 +83,12 @@ walked_of b σ = by_verdict (judge_of b) (prices_of (tree_in b).block σ) (exit_
 abbrev pub foretold_of : Flow → Totals → Settings → Result Foretold Fault
 foretold_of f t σ = by_verdict (end_of (ended_of f) (opens_of f)) t σ
 
--- the forecast in the rules' numbers: 1 for an endless program, 0 for one that ends, and then its steps, scans and
--- milliseconds, and the pace and the scans that it leaves
+-- 1 for an endless program, 0 for one that ends, and then its steps, scans and milliseconds, and the pace and the scans
+-- that it leaves
+abbrev pub values_of : Foretold → List ℕ
+values_of (Ends t pace each) = 0 ∷ t.steps.0 ∷ t.scans.0 ∷ t.millis.0 ∷ pace ∷ each ∷ []
+values_of Never = 1 ∷ 0 ∷ 0 ∷ 0 ∷ 0 ∷ 0 ∷ []
+
+-- the forecast in the rules' numbers, or the refusal's number and place
 abbrev pub told_of : Result Foretold Fault → Told
-told_of (Ok (Ends t pace each)) = yes (0 ∷ t.steps.0 ∷ t.scans.0 ∷ t.millis.0 ∷ pace ∷ each ∷ [])
-told_of (Ok Never) = yes (1 ∷ 0 ∷ 0 ∷ 0 ∷ 0 ∷ 0 ∷ [])
-told_of (Err w) = no_at (number_of w.refusal) w.place
+told_of = told_at values_of

@@ -1,6 +1,6 @@
 // A forecast and a plain run of steps, side by side.
 use crate::make::body;
-use machine::{Loop, Run};
+use machine::Run;
 use perform::{Performed, Settings};
 use reckon::{Foretold, Totals};
 use refusal::Refusal;
@@ -28,12 +28,7 @@ fn with(totals: Totals, answer: Result<Option<Performed>, Refusal>) -> Totals {
 // the scans that it leaves.
 fn ran(len: usize, room: &[u8], settings: Settings) -> Option<(Totals, u8, u8)> {
     let mut totals = Totals::none();
-    let mut run = Run {
-        len,
-        place: 0,
-        inner: Loop { place: 0, left: 0 },
-        settings,
-    };
+    let mut run = Run::started(len, settings);
     for _ in 0..4000 {
         if run.len == 0 {
             return Some((totals, run.settings.pace, run.settings.scans));

@@ -1,11 +1,13 @@
 #![tactic(auto)]
 
 // A running program: its place and one step of it. The crate `reckon` forecasts all its steps.
+//   start    a run that is Ready, and one just started             R5, J11
 //   sound    which runs are sound                                  R3, R5 to R8
 //   steps    one step: a command performed and the next run        S1, S6 to S13, N16
 // A run holds its body's length; the body itself is lent beside it, at the front of a room, and no step changes it.
 // specs/Line has the commands that a body performs, which the forecast and the promises speak of.
 mod sound;
+mod start;
 mod steps;
 
 use perform::{Performed, Settings};

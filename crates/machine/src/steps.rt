@@ -1,10 +1,10 @@
 // One step of a run: rules S1 and S6 to S13, and N16.
-ghost use Rattle.std.specs.Prelude.{◌≡◌, [], true, Ok};
+ghost use Rattle.std.specs.Prelude.{◌≡◌, true, Ok};
 ghost use Rattle.program.specs.Command.{read_of};
 ghost use Rattle.loops.specs.Token.{role_of};
 ghost use Rattle.judge.specs.Standing.{stand_of};
 ghost use Rattle.machine.specs.Sound.{held_of};
-ghost use Rattle.machine.specs.Step.{frames_of, loop_of, ready_of, unsound_of, step_of};
+ghost use Rattle.machine.specs.Step.{frames_of, loop_of, unsound_of, step_of};
 ghost use Rattle.machine.specs.Moves.{settled_of, closed_of, returned_of, moved_of, ran_of};
 
 use crate::sound::{filled, held, rests};
@@ -16,33 +16,14 @@ use perform::{Settings, perform};
 use program::{Command, Kind};
 use refusal::Refusal;
 
-// No loop is open.
-fn none() -> Loop
-    ensures { result ≡ loop_of [] }
-{
-    Loop { place: 0, left: 0 }
-}
-
 // The loop that a record holds, if a count is left.
 fn kept(inner: Loop) -> Loop
     ensures { result ≡ loop_of (frames_of inner) }
 {
     if inner.left == 0 {
-        return none();
+        return Loop::none();
     }
     inner
-}
-
-// A run that is Ready with these settings.
-fn ready(settings: Settings) -> Run
-    ensures { result ≡ ready_of settings }
-{
-    Run {
-        len: 0,
-        place: 0,
-        inner: none(),
-        settings,
-    }
 }
 
 impl Run {
@@ -51,7 +32,7 @@ impl Run {
         ensures { result ≡ settled_of self place inner settings }
     {
         if self.len <= place {
-            return ready(settings);
+            return Run::ready(settings);
         }
         Run {
             place,
@@ -66,7 +47,7 @@ impl Run {
         ensures { result ≡ closed_of self next }
     {
         if self.inner.left <= 1 {
-            return self.settled(next, none(), self.settings);
+            return self.settled(next, Loop::none(), self.settings);
         }
         let less = Loop {
             left: self.inner.left - 1,
@@ -80,7 +61,7 @@ impl Run {
         ensures { result ≡ returned_of self next }
     {
         if self.inner.left == 0 {
-            return self.settled(next, none(), self.settings);
+            return self.settled(next, Loop::none(), self.settings);
         }
         self.settled(self.inner.place, self.inner, self.settings)
     }

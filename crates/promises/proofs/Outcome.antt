@@ -104,6 +104,15 @@ use Rattle.perform.proofs.settings.Settings.sound.Reads as perform_settings_sett
 use Rattle.perform.specs.contracts.settings.Settings.behind as perform_settings_settings_behind
 use Rattle.perform.proofs.settings.Settings.behind.Kinds as perform_settings_settings_behind_kinds
 use Rattle.perform.proofs.settings.Settings.behind.Reads as perform_settings_settings_behind_reads
+use Rattle.machine.specs.contracts.Loop.none as machine_loop_none
+use Rattle.machine.proofs.Loop.none.Kinds as machine_loop_none_kinds
+use Rattle.machine.proofs.Loop.none.Reads as machine_loop_none_reads
+use Rattle.machine.specs.contracts.Run.ready as machine_run_ready
+use Rattle.machine.proofs.Run.ready.Kinds as machine_run_ready_kinds
+use Rattle.machine.proofs.Run.ready.Reads as machine_run_ready_reads
+use Rattle.machine.specs.contracts.Run.started as machine_run_started
+use Rattle.machine.proofs.Run.started.Kinds as machine_run_started_kinds
+use Rattle.machine.proofs.Run.started.Reads as machine_run_started_reads
 use Rattle.machine.specs.contracts.Run.step as machine_run_step
 use Rattle.machine.proofs.Run.step.Kinds as machine_run_step_kinds
 use Rattle.machine.proofs.Run.step.Reads as machine_run_step_reads
@@ -388,6 +397,18 @@ one_perform_settings_settings_sound κs a r r' s s' h h' = one h h'
 pub one_perform_settings_settings_behind : (κs : Lifetimes.Lfts 0) (a : World.ArgsD perform_settings_settings_behind.signature κs) (r r' : World.ResD perform_settings_settings_behind.signature κs)
     (s s' : Clauses.AtExit (K.ended_of 0 perform_settings_settings_behind_kinds.ps perform_settings_settings_behind_kinds.r) κs) → perform_settings_settings_behind_reads.Post κs a r s → perform_settings_settings_behind_reads.Post κs a r' s' → r ≡ r'
 one_perform_settings_settings_behind κs a r r' s s' h h' = one h h'
+
+pub one_machine_loop_none : (κs : Lifetimes.Lfts 0) (a : World.ArgsD machine_loop_none.signature κs) (r r' : World.ResD machine_loop_none.signature κs)
+    (s s' : Clauses.AtExit (K.ended_of 0 machine_loop_none_kinds.ps machine_loop_none_kinds.r) κs) → machine_loop_none_reads.Post κs a r s → machine_loop_none_reads.Post κs a r' s' → r ≡ r'
+one_machine_loop_none κs a r r' s s' h h' = one h h'
+
+pub one_machine_run_ready : (κs : Lifetimes.Lfts 0) (a : World.ArgsD machine_run_ready.signature κs) (r r' : World.ResD machine_run_ready.signature κs)
+    (s s' : Clauses.AtExit (K.ended_of 0 machine_run_ready_kinds.ps machine_run_ready_kinds.r) κs) → machine_run_ready_reads.Post κs a r s → machine_run_ready_reads.Post κs a r' s' → r ≡ r'
+one_machine_run_ready κs a r r' s s' h h' = one h h'
+
+pub one_machine_run_started : (κs : Lifetimes.Lfts 0) (a : World.ArgsD machine_run_started.signature κs) (r r' : World.ResD machine_run_started.signature κs)
+    (s s' : Clauses.AtExit (K.ended_of 0 machine_run_started_kinds.ps machine_run_started_kinds.r) κs) → machine_run_started_reads.Post κs a r s → machine_run_started_reads.Post κs a r' s' → r ≡ r'
+one_machine_run_started κs a r r' s s' h h' = one h h'
 
 pub one_machine_run_step : (κs : Lifetimes.Lfts 1) (a : World.ArgsD machine_run_step.signature κs) (r r' : World.ResD machine_run_step.signature κs)
     (s s' : Clauses.AtExit (K.ended_of 1 machine_run_step_kinds.ps machine_run_step_kinds.r) κs) → machine_run_step_reads.Post κs a r s → machine_run_step_reads.Post κs a r' s' → r ≡ r'

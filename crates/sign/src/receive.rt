@@ -1,7 +1,6 @@
 // Bytes off the line: the record after what was heard (J3), or 16. A released body (J10) that is a program starts
 // (J11), and with any other the sign stays Ready (J12).
 ghost use Rattle.std.specs.Prelude.{◌≡◌};
-ghost use Rattle.machine.specs.Step.{started_of};
 ghost use Rattle.sign.specs.Join.{stays_of, running_of, emptied_of, starts_of};
 ghost use Rattle.sign.specs.Receive.{behind_of, receive_of};
 
@@ -9,21 +8,8 @@ use crate::reset::rested;
 use crate::{Received, Sign};
 use hear::{Outcome, hear};
 use judge::Verdict;
-use machine::{Loop, Run};
-use perform::Settings;
+use machine::Run;
 use refusal::Refusal;
-
-// A run of a body of this length from its first command.
-fn start(len: usize, settings: Settings) -> Run
-    ensures { result ≡ started_of len settings }
-{
-    Run {
-        len,
-        place: 0,
-        inner: Loop { place: 0, left: 0 },
-        settings,
-    }
-}
 
 impl Sign {
     // The record stays, and no body comes with the answer.
@@ -43,7 +29,7 @@ impl Sign {
         ensures { result ≡ running_of self len }
     {
         Sign {
-            run: start(len, self.run.settings),
+            run: Run::started(len, self.run.settings),
             ..self
         }
     }

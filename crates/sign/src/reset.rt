@@ -7,7 +7,7 @@ use crate::{Cleared, Sign};
 use collect::begun;
 use completed::none;
 use hear::Outcome;
-use machine::{Loop, Run};
+use machine::Run;
 use perform::Settings;
 use refusal::Refusal;
 
@@ -15,19 +15,13 @@ use refusal::Refusal;
 pub(crate) fn rested(dim: u8, bright: u8) -> Run
     ensures { result ≡ ready_of (start_settings dim bright) }
 {
-    let settings = Settings {
+    Run::ready(Settings {
         pace: 4,
         scans: 1,
         sink: 0,
         dim,
         bright,
-    };
-    Run {
-        len: 0,
-        place: 0,
-        inner: Loop { place: 0, left: 0 },
-        settings,
-    }
+    })
 }
 
 // The record that a reset leaves where threshold and brightness are these.

@@ -6,8 +6,10 @@ use std::io;
 pub(crate) fn forecast(rt: &impl Print, body: &str) -> io::Result<()> {
     match reckon::forecast(body.as_bytes(), 4, 1) {
         Ok(Foretold::Ends { totals, .. }) => {
-            let (steps, scans, millis) = (totals.steps.0, totals.scans.0, totals.millis.0);
-            println!(rt; "{body}: steps {steps} scans {scans} ms {millis}")
+            println!(rt;
+                "{body}: steps {} scans {} ms {}",
+                totals.steps, totals.scans, totals.millis
+            )
         }
         Ok(Foretold::Endless) => println!(rt; "{body}: never"),
         Err(fault) => println!(rt; "{body}: {fault}"),

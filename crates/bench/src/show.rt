@@ -22,8 +22,10 @@ fn sent(body: &[u8]) -> Sign {
 pub(crate) fn first(rt: &impl Print, body: &str) -> io::Result<()> {
     match sent(body.as_bytes()).step().answer {
         Ok(Some(did)) => {
-            let (column, scans, millis) = (did.column, did.scans.0, did.millis.0);
-            println!(rt; "{body}: column {column} scans {scans} ms {millis}")
+            println!(rt;
+                "{body}: column {} scans {} ms {}",
+                did.column, did.scans, did.millis
+            )
         }
         Ok(None) => println!(rt; "{body}: idle"),
         Err(refusal) => println!(rt; "{body}: {refusal}"),

@@ -51,7 +51,7 @@ pub(crate) fn stepped(rt: &impl Print, went: Stepped) -> io::Result<Sign> {
             )?;
             println!(rt;
                 " column {} scans {} ms {}",
-                did.column, did.scans.0, did.millis.0
+                did.column, did.scans, did.millis
             )?;
         }
         Ok(None) => println!(rt; "idle")?,

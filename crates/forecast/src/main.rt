@@ -11,9 +11,9 @@ const STDIN: i32 = 0;
 fn tell(rt: &impl Print, body: &[u8]) -> std::io::Result<()> {
     match reckon::forecast(body, 4, 1) {
         Ok(Foretold::Ends { totals, .. }) => {
-            println!(rt; "steps {}", totals.steps.0)?;
-            println!(rt; "scans {}", totals.scans.0)?;
-            println!(rt; "ms {}", totals.millis.0)?;
+            println!(rt; "steps {}", totals.steps)?;
+            println!(rt; "scans {}", totals.scans)?;
+            println!(rt; "ms {}", totals.millis)?;
             println!(rt; "end ready")
         }
         Ok(Foretold::Endless) => println!(rt; "end never"),

@@ -3,10 +3,12 @@
 // Steps, shifts, scans and milliseconds (S14): one tuple struct a unit, with its own sum and its own conversion to the
 // next (P11). A sum or a product past 64 bits stays at the greatest number.
 //   amount   what the four share: a sum and some times over, each within one unit
+//   print    how each prints
 ghost use Rattle.std.specs.Prelude.{◌≡◌, ◌*◌};
 ghost use Rattle.units.specs.Units.{scans_of, millis_of};
 
 mod amount;
+mod print;
 
 pub use amount::Amount;
 

@@ -6,7 +6,7 @@ use mathlib.Core.Path.{◌≡◌, refl, sym, ap, ◌∙◌, subst}
 use native.Mathlib.Omega.{arith}
 use lib.Dec.{eqb, ltb}
 use lib.ListN.{length}
-use borrow.Author.Tests.{eq-eqb, ne_eqb, lt-ltb, le-ltb}
+use borrow.Author.Tests.{eq-eqb, ne_eqb, eqb-true, eqb-false, lt-ltb, le-ltb}
 use Rattle.basis.specs.Bytes.{laid}
 use Rattle.basis.specs.Choice.{when}
 use Rattle.basis.specs.Rows.{Row, first_of}
@@ -19,7 +19,9 @@ use Rattle.std.specs.Prelude.{Result, Ok, Err, Option}
 use Rattle.perform.specs.declared.price.Performed.{Performed}
 use Rattle.refusal.specs.declared.Refusal.{Refusal}
 use Rattle.refusal.specs.declared.Refusal.TheVariants.{Unsound}
-use Rattle.refusal.specs.Refusal.{AllNamed}
+use Rattle.refusal.specs.Refusal.{AllNamed, number_of, told_by}
+use Rattle.refusal.proofs.Names.{number_some}
+use Rattle.std.specs.Result.{is_ok}
 use Rattle.refusal.specs.declared.Refusal.{Refusal as No}
 use Rattle.machine.specs.Step.{told_of as answer_told}
 use Rattle.hear.specs.Hear.{told_of as outcome_told}
@@ -190,28 +192,31 @@ module _ (rows : List Row) (image answer : List ℕ) (n : ℕ) (bytes next : Lis
     written : answer' ≡ laid bytes answer
     written = after ∙ when_false (ltb (length answer) size) answer (laid bytes answer) long
 
-    -- a call that is refused tells nothing, and leaves the image
-    pub refused_went : ((n ≡ 0 → ⊥) → bytes ≡ []) → (r ≡ 0 → ⊥) → Went r image answer'
+    -- a call leaves the next image and tells where it isn't refused, and neither where it is
+    pub went : (image' : List ℕ) → image' ≡ kept_of n image next → ((n ≡ 0 → ⊥) → bytes ≡ []) → Went r image' answer'
     unfolding laid
-    refused_went quiet h =
-        let no : n ≡ 0 → ⊥ = λ z. h (told ∙ own ∙ z) in
-        (told ∙ own ∙ all, (kept_no _ image next (λ z. no (all ∙ z)), written ∙ ap (λ (x : List ℕ). laid x answer) (quiet no) ∙ kept_no _ answer (laid bytes answer) (λ z. no (all ∙ z))))
+    went image' e quiet =
+        (told ∙ own ∙ all, (e ∙ ap (λ (k : ℕ). kept_of k image next) all, written ∙ kept (eqb n 0) refl ∙ ap (λ (k : ℕ). kept_of k answer (laid bytes answer)) all))
+      where
+        kept : (t : Bool) → eqb n 0 ≡ t → laid bytes answer ≡ kept_of n answer (laid bytes answer)
+        kept true z = kept_yes n answer (laid bytes answer) (eqb-true n 0 z)
+        kept false z = ap (λ (x : List ℕ). laid x answer) (quiet (eqb-false n 0 z)) ∙ kept_no n answer (laid bytes answer) (eqb-false n 0 z)
 
-    -- a call that is not refused leaves the next image, and tells
-    pub told_went : (image' : List ℕ) → r ≡ 0 → image' ≡ next → Went 0 image' answer'
-    told_went image' z e =
-        let none : n ≡ 0 = sym (told ∙ own) ∙ z in
-        let zero' = sym all ∙ none in
-        (sym zero', (e ∙ kept_yes _ image next zero', written ∙ kept_yes _ answer (laid bytes answer) zero'))
-
--- a call without an answer, in an image of the right size: what is lent stays where it is refused
+-- a call without an answer, in an image of the right size: the number and the image are those of the call itself
 module _ (image : List ℕ) (n : ℕ) (next : List ℕ) (fits : length image ≡ image_size) (ill : sound_of (record_of image) ≡ false → n ≡ 16) where
-  pub no_answer : (n ≡ 0 → ⊥) → (n ≡ first_or (guarded image []) n) × (image ≡ kept_of (first_or (guarded image []) n) image next)
-  no_answer h = let all = guard_is image [] n fits ill (λ e. refl) in (all, kept_no _ image next (λ z. h (all ∙ z)))
+  pub alone_went : (image' : List ℕ) → image' ≡ kept_of n image next
+      → (n ≡ first_or (guarded image []) n) × (image' ≡ kept_of (first_or (guarded image []) n) image next)
+  alone_went image' e = let all = guard_is image [] n fits ill (λ e. refl) in (all, e ∙ ap (λ (k : ℕ). kept_of k image next) all)
 
-  pub went_on : (image' : List ℕ) → n ≡ 0 → image' ≡ next
-      → (0 ≡ first_or (guarded image []) n) × (image' ≡ kept_of (first_or (guarded image []) n) image next)
-  went_on image' z e = let none = sym (guard_is image [] n fits ill (λ e. refl)) ∙ z in (sym none, e ∙ kept_yes _ image next none)
+-- 0 is the number of a yes, and of no refusal
+pub yes_is : {A : Type 0} (values : A → List ℕ) (o : Result A Refusal) → eqb (told_by values o).number 0 ≡ is_ok o
+yes_is values (Ok x) = refl
+yes_is values (Err e) = ne_eqb (number_of e) 0 (λ z. omega (arith, number_some e))
+
+-- what is stored for a yes alone
+pub stored : {A : Type 0} (values : A → List ℕ) (o : Result A Refusal) (t u : Bool) (image next image' : List ℕ) → t ≡ is_ok o → t ≡ u → image' ≡ when u next image
+    → image' ≡ kept_of (told_by values o).number image next
+stored values o t u image next image' e f h = h ∙ ap (λ (x : Bool). when x next image) (sym f ∙ e ∙ sym (yes_is values o))
 
 -- an unsound record is 16 to each call
 pub ill_receives : (image : List ℕ) (mid : ℕ) (b : List ℕ) → sound_of (record_of image) ≡ false → (outcome_told (receive_of (record_of image) mid b).outcome).number ≡ 16

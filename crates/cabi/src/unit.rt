@@ -37,12 +37,10 @@ pub extern "C" fn yd_reset(image: &mut [u8]) -> u32
         return 251;
     }
     let cleared = load(image).reset();
-    let told = tell_outcome(cleared.outcome);
-    if told != 0 {
-        return told;
+    if cleared.outcome.is_ok() {
+        store(cleared.sign, image);
     }
-    store(cleared.sign, image);
-    0
+    tell_outcome(cleared.outcome)
 }
 
 // What bytes off the line do to the sign.
@@ -60,12 +58,10 @@ pub extern "C" fn yd_receive(image: &mut [u8], mid: u8, bytes: &[u8], answer: &m
         return short(sign, short_for(mid));
     }
     let received = sign.receive(mid, bytes);
-    let told = tell_received(received.outcome, &received.body, received.len, answer);
-    if told != 0 {
-        return told;
+    if received.outcome.is_ok() {
+        store(received.sign, image);
     }
-    store(received.sign, image);
-    0
+    tell_received(received.outcome, &received.body, received.len, answer)
 }
 
 // One step.
@@ -83,12 +79,10 @@ pub extern "C" fn yd_step(image: &mut [u8], answer: &mut [u8]) -> u32
         return short(sign, 252);
     }
     let stepped = sign.step();
-    let told = tell_stepped(stepped.answer, answer);
-    if told != 0 {
-        return told;
+    if stepped.answer.is_ok() {
+        store(stepped.sign, image);
     }
-    store(stepped.sign, image);
-    0
+    tell_stepped(stepped.answer, answer)
 }
 
 // Writes the reply to a query; AUX reads S if `aux` isn't 0.

@@ -19,9 +19,11 @@ fn outcome(rt: &impl Print, what: Result<Outcome, Refusal>) -> io::Result<()> {
         Ok(Outcome::Reset) => print!(rt; "reset"),
         Ok(Outcome::Repeat) => print!(rt; "repeat"),
         Ok(Outcome::Stored) => print!(rt; "stored"),
-        Ok(Outcome::Released(Ok(Ending::Finite))) => print!(rt; "released finite "),
-        Ok(Outcome::Released(Ok(Ending::Endless))) => print!(rt; "released endless "),
-        Ok(Outcome::Released(Err(fault))) => print!(rt; "released {fault} "),
+        Ok(Outcome::Released { verdict, .. }) => match verdict {
+            Ok(Ending::Finite) => print!(rt; "released finite "),
+            Ok(Ending::Endless) => print!(rt; "released endless "),
+            Err(fault) => print!(rt; "released {fault} "),
+        },
         Err(refusal) => print!(rt; "{refusal}"),
     }
 }
@@ -29,7 +31,9 @@ fn outcome(rt: &impl Print, what: Result<Outcome, Refusal>) -> io::Result<()> {
 // The outcome of a receive with the body that was released.
 pub(crate) fn received(rt: &impl Print, got: Received) -> io::Result<Sign> {
     outcome(rt, got.outcome)?;
-    front(rt, &got.body, got.len)?;
+    if let Ok(Outcome::Released { len, .. }) = got.outcome {
+        front(rt, &got.body, len)?;
+    }
     println!(rt)?;
     Ok(got.sign)
 }

@@ -240,9 +240,9 @@ ill_resets image e = ap (λ (t : Bool). (outcome_told (choice t).outcome).number
     choice t = when t (record { sign = reset_of (record_of image); outcome = Ok Reset }) (record { sign = record_of image; outcome = Err Unsound })
 
 -- a refusal tells nothing
-pub quiet_receive : (o : Result Outcome Refusal) (body : List ℕ) (len : ℕ) → ((outcome_told o).number ≡ 0 → ⊥) → received_bytes o body len ≡ []
-quiet_receive (Ok x) body len h = absurd (h refl)
-quiet_receive (Err e) body len h = refl
+pub quiet_receive : (o : Result Outcome Refusal) (body : List ℕ) → ((outcome_told o).number ≡ 0 → ⊥) → received_bytes o body ≡ []
+quiet_receive (Ok x) body h = absurd (h refl)
+quiet_receive (Err e) body h = refl
 
 pub quiet_step : (x : Result (Option Performed) Refusal) → ((answer_told x).number ≡ 0 → ⊥) → words_of (answer_told x).values ≡ []
 unfolding words_of

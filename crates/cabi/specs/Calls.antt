@@ -70,7 +70,7 @@ receive_image image mid bytes answer = kept_of (receive_no image mid bytes answe
 abbrev pub receive_answer : (image : List ℕ) → ℕ → (bytes answer : List ℕ) → List ℕ
 receive_answer image mid bytes answer =
     let x = receive_of (record_of image) mid bytes in
-    kept_of (receive_no image mid bytes answer) answer (laid (received_bytes x.outcome x.body x.len) answer)
+    kept_of (receive_no image mid bytes answer) answer (laid (received_bytes x.outcome x.body) answer)
 
 -- power-on
 abbrev pub power_image : List ℕ → List ℕ

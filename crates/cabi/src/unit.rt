@@ -61,7 +61,7 @@ pub extern "C" fn yd_receive(image: &mut [u8], mid: u8, bytes: &[u8], answer: &m
     if received.outcome.is_ok() {
         store(received.sign, image);
     }
-    tell_received(received.outcome, &received.body, received.len, answer)
+    tell_received(received.outcome, &received.body, answer)
 }
 
 // One step.

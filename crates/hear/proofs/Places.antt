@@ -111,8 +111,8 @@ module _ (c : Collection) (lens : length c.lens ≡ 6) (room : length c.room ≡
 pub whole_left : (completed : Completed) (c : Collection) (v : Verdict) (len : ℕ) → room_of (joined_of c.lens c.room) ≡ c.room
     → v ≡ judge_of (joined_of c.lens c.room)
     → len ≡ length (joined_of c.lens c.room)
-    → ◌≡◌ {A = Left} (record { outcome = Ok (Released v); completed = added_of completed c.id; collection = record { id = 0; total = 0; lens = replicate 6 0; room = c.room }; len = len }) (whole_of completed c)
+    → ◌≡◌ {A = Left} (record { outcome = Ok (Released v len); completed = added_of completed c.id; collection = record { id = 0; total = 0; lens = replicate 6 0; room = c.room } }) (whole_of completed c)
 whole_left completed c v len er ev el =
-    ap (λ (x : List ℕ). record { outcome = Ok (Released v); completed = added_of completed c.id; collection = record { id = 0; total = 0; lens = replicate 6 0; room = x }; len = len }) (sym er)
-    ∙ ap (λ (x : Verdict). record { outcome = Ok (Released x); completed = added_of completed c.id; collection = body_in (joined_of c.lens c.room); len = len }) ev
-    ∙ ap (λ (n : ℕ). record { outcome = Ok (Released (judge_of (joined_of c.lens c.room))); completed = added_of completed c.id; collection = body_in (joined_of c.lens c.room); len = n }) el
+    ap (λ (x : List ℕ). record { outcome = Ok (Released v len); completed = added_of completed c.id; collection = record { id = 0; total = 0; lens = replicate 6 0; room = x } }) (sym er)
+    ∙ ap (λ (x : Verdict). record { outcome = Ok (Released x len); completed = added_of completed c.id; collection = body_in (joined_of c.lens c.room) }) ev
+    ∙ ap (λ (n : ℕ). record { outcome = Ok (Released (judge_of (joined_of c.lens c.room)) n); completed = added_of completed c.id; collection = body_in (joined_of c.lens c.room) }) el

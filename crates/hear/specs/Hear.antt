@@ -37,7 +37,16 @@ values_of Query = 1 ∷ 0 ∷ 0 ∷ []
 values_of Reset = 2 ∷ 0 ∷ 0 ∷ []
 values_of Repeat = 3 ∷ 0 ∷ 0 ∷ []
 values_of Stored = 4 ∷ 0 ∷ 0 ∷ []
-values_of (Released v) = 5 ∷ (verdict_told v).number ∷ (verdict_told v).place ∷ []
+values_of (Released v len) = 5 ∷ (verdict_told v).number ∷ (verdict_told v).place ∷ []
+
+-- the length of the body that is released, 0 where none is
+abbrev pub body_length : Result Outcome Refusal → ℕ
+body_length (Ok Query) = 0
+body_length (Ok Reset) = 0
+body_length (Ok Repeat) = 0
+body_length (Ok Stored) = 0
+body_length (Ok (Released v len)) = len
+body_length (Err e) = 0
 
 abbrev pub told_of : Result Outcome Refusal → Told
 told_of = told_by values_of

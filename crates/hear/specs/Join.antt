@@ -44,24 +44,23 @@ join_by stays counted completed c len id total position part =
     (when (not (eqb len 0)) (stays (Err Busy))
     (when (begins_of c id) (counted (stored_of (begun_of id total) position part)) (goes_by stays counted c total position part)))
 
--- what bytes leave: the outcome, the completed IDs, what is collected with its room, and the length of a body released
+-- what bytes leave: the outcome, the completed IDs, and what is collected with its room
 pub record Left : Type 0 where
   pub outcome : Result Outcome Refusal
   pub completed : Completed
   pub collection : Collection
-  pub len : ℕ
 
 -- an answer and the room as it was left
 abbrev pub left_of : Heard → List ℕ → Left
-left_of h room = record { outcome = h.outcome; completed = h.completed; collection = collection_of h.slots room; len = h.len }
+left_of h room = record { outcome = h.outcome; completed = h.completed; collection = collection_of h.slots room }
 
 -- nothing changes
 abbrev pub stay_of : Completed → Collection → Result Outcome Refusal → Left
-stay_of completed c outcome = record { outcome = outcome; completed = completed; collection = c; len = 0 }
+stay_of completed c outcome = record { outcome = outcome; completed = completed; collection = c }
 
 -- a reset: nothing is collected, and no ID is completed
 abbrev pub reset_left : Left
-reset_left = record { outcome = Ok Reset; completed = no_completed; collection = none_of; len = 0 }
+reset_left = record { outcome = Ok Reset; completed = no_completed; collection = none_of }
 
 -- no slot is held, and the room holds a body
 abbrev pub body_in : List ℕ → Collection
@@ -69,7 +68,7 @@ body_in body = record { id = 0; total = 0; lens = replicate 6 0; room = room_of 
 
 -- Released: this body is judged, its ID is completed, and nothing is being collected
 abbrev pub released_of : Completed → ℕ → List ℕ → Left
-released_of completed id body = record { outcome = Ok (Released (judge_of body)); completed = added_of completed id; collection = body_in body; len = length body }
+released_of completed id body = record { outcome = Ok (Released (judge_of body) (length body)); completed = added_of completed id; collection = body_in body }
 
 -- the data joined by position is the body
 abbrev pub whole_of : Completed → Collection → Left

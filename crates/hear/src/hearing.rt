@@ -22,7 +22,6 @@ fn cleared(room: &mut [u8; 84]) -> Heard
         outcome: Ok(Outcome::Reset),
         completed: none(),
         slots: begun(0, 0),
-        len: 0,
     }
 }
 

@@ -14,13 +14,12 @@ use refusal::Refusal;
 
 // Nothing changes.
 pub(crate) fn stays(completed: Completed, slots: Slots, outcome: Result<Outcome, Refusal>) -> Heard
-    ensures { result ≡ record { outcome = outcome; completed = completed; slots = slots; len = 0 } }
+    ensures { result ≡ record { outcome = outcome; completed = completed; slots = slots } }
 {
     Heard {
         outcome,
         completed,
         slots,
-        len: 0,
     }
 }
 
@@ -34,10 +33,9 @@ fn released(completed: Completed, slots: Slots, room: &[u8; 84]) -> Heard
     let len = 14 * at + lens[at] as usize;
     let verdict = judge(&room[..len]);
     Heard {
-        outcome: Ok(Outcome::Released(verdict)),
+        outcome: Ok(Outcome::Released { verdict, len }),
         completed: completed.with(slots.id),
         slots: begun(0, 0),
-        len,
     }
 }
 

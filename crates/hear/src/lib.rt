@@ -16,21 +16,20 @@ pub use hearing::hear;
 use judge::Verdict;
 use refusal::Refusal;
 
-// What a sign makes of bytes that it doesn't refuse. A body released comes with its verdict, and stands in the room.
+// What a sign makes of bytes that it doesn't refuse. A body released comes with its verdict and its length, and stands in the room.
 #[derive(Clone, Copy)]
 pub enum Outcome {
     Query,
     Reset,
     Repeat,
     Stored,
-    Released(Verdict),
+    Released { verdict: Verdict, len: usize },
 }
 
-// The outcome or the refusal, with the completed IDs and the slots as they are after it. Of a body released `len` is the length.
+// The outcome or the refusal, with the completed IDs and the slots as they are after it.
 #[derive(Clone, Copy)]
 pub struct Heard {
     pub outcome: Result<Outcome, Refusal>,
     pub completed: Completed,
     pub slots: Slots,
-    pub len: usize,
 }

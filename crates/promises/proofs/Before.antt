@@ -63,11 +63,11 @@ module _ (image : List ℕ) (mid : ℕ) (bytes answer : List ℕ) (e : Allowed m
       ap (λ (n : ℕ). kept_of n image (image_of y.sign)) no_as_before
       ∙ ap (λ (z : Received). kept_of (receive_no_before image answer x) image (image_of z.sign)) (receives_as_before (record_of image) mid bytes e)
 
-  answer_as_before : kept_of (receive_no image mid bytes answer) answer (laid (received_bytes y.outcome y.body y.len) answer)
-      ≡ kept_of (receive_no_before image answer x) answer (laid (received_bytes x.outcome x.body x.len) answer)
+  answer_as_before : kept_of (receive_no image mid bytes answer) answer (laid (received_bytes y.outcome y.body) answer)
+      ≡ kept_of (receive_no_before image answer x) answer (laid (received_bytes x.outcome x.body) answer)
   answer_as_before =
-      ap (λ (n : ℕ). kept_of n answer (laid (received_bytes y.outcome y.body y.len) answer)) no_as_before
-      ∙ ap (λ (z : Received). kept_of (receive_no_before image answer x) answer (laid (received_bytes z.outcome z.body z.len) answer)) (receives_as_before (record_of image) mid bytes e)
+      ap (λ (n : ℕ). kept_of n answer (laid (received_bytes y.outcome y.body) answer)) no_as_before
+      ∙ ap (λ (z : Received). kept_of (receive_no_before image answer x) answer (laid (received_bytes z.outcome z.body) answer)) (receives_as_before (record_of image) mid bytes e)
 
 -- a writer by other rows of the same number
 by_rows : (rows rows' : List Row) (bytes out : List ℕ) (r : ℕ) (after : List ℕ) → first_of rows ≡ first_of rows' → Tells rows bytes out r after

@@ -139,7 +139,7 @@ one_words_tell_outcome κs a r r' s s' h h' = one h h'
 
 pub one_words_tell_received : (κs : Lifetimes.Lfts 2) (a : World.ArgsD words_tell_received.signature κs) (r r' : World.ResD words_tell_received.signature κs)
     (s s' : Clauses.AtExit (K.ended_of 2 words_tell_received_kinds.ps words_tell_received_kinds.r) κs) → words_tell_received_reads.Post κs a r s → words_tell_received_reads.Post κs a r' s'
-    → (r ≡ r') × (s.1.1.1.0.now ≡ s'.1.1.1.0.now)
+    → (r ≡ r') × (s.1.1.0.now ≡ s'.1.1.0.now)
 one_words_tell_received κs a r r' s s' h h' = (one h.0 h'.0, one h.1 h'.1)
 
 pub one_words_tell_stepped : (κs : Lifetimes.Lfts 1) (a : World.ArgsD words_tell_stepped.signature κs) (r r' : World.ResD words_tell_stepped.signature κs)

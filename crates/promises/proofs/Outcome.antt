@@ -582,7 +582,7 @@ one_hear_framed κs a r r' s s' h h' = one h h'
 
 -- what is heard and the room that it leaves are told by what is left
 heard_in : Left → Heard
-heard_in l = record { outcome = l.outcome; completed = l.completed; slots = slots_in l.collection; len = l.len }
+heard_in l = record { outcome = l.outcome; completed = l.completed; slots = slots_in l.collection }
 
 pub one_hear_hear : (κs : Lifetimes.Lfts 2) (a : World.ArgsD hear_hear.signature κs) (r r' : World.ResD hear_hear.signature κs)
     (s s' : Clauses.AtExit (K.ended_of 2 hear_hear_kinds.ps hear_hear_kinds.r) κs) → hear_hear_reads.Post κs a r s → hear_hear_reads.Post κs a r' s'

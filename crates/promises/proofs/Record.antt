@@ -5,7 +5,7 @@ use mathlib.Core.List.{List, [], ◌∷◌}
 use mathlib.Core.Path.{◌≡◌, refl, sym, ap, ◌∙◌, subst}
 use native.Mathlib.Omega.{arith}
 use lib.Dec.{eqb, leb}
-use lib.ListN.{length, take, drop}
+use lib.ListN.{length, take, drop, replicate}
 use borrow.Author.Tests.{eqb-true, eqb-false}
 use Rattle.basis.specs.Choice.{when, ◌and◌}
 use Rattle.basis.specs.Rows.{Row, first_of}
@@ -27,6 +27,7 @@ use Rattle.machine.specs.Sound.{sound_of as run_sound}
 use Rattle.machine.specs.Step.{say_of, step_of as run_step, told_of as answer_told}
 use Rattle.machine.specs.declared.Stepped.{Stepped as RunStepped}
 use Rattle.machine.proofs.Keeps.{step_ready, step_busy}
+use Rattle.hear.specs.Hear.{body_length}
 use Rattle.hear.specs.declared.Outcome.{Outcome}
 use Rattle.sign.specs.Join.{stays_of}
 use Rattle.sign.specs.Reset.{cleared_of}
@@ -47,10 +48,10 @@ use Rattle.promises.specs.Unit.{left_by, ours, heard_in, stepped_in, cleared_in,
 use Rattle.promises.specs.Wire.{Lays}
 use Rattle.promises.specs.Record.{Heeds, Answers, Joins, Steps, Clears, Obeys, stays}
 
--- a record of ours that stays, told an outcome
-still : (s : Sign) (o : Result Outcome Refusal) (x : Received) → x ≡ stays_of s o → heard_in x ≡ stays s (heard_in (stays_of s o)).told
+-- a record of ours that stays, told an outcome that releases no body
+still : (s : Sign) (o : Result Outcome Refusal) (x : Received) → x ≡ stays_of s o → body_length o ≡ 0 → heard_in x ≡ stays s (heard_in (stays_of s o)).told
 unfolding stays_of
-still s o x e = ap heard_in e
+still s o x e none = ap heard_in e ∙ ap (λ (n : ℕ). record { told = (heard_in (stays_of s o)).told; next = s; body = take n (replicate 84 0) }) none
 
 heeds : (x y : Received) → x ≡ y → Heeds ours (heard_in x) y
 heeds x y e =
@@ -64,8 +65,8 @@ pub ours_answers : (s : Sign) → Good s → Answers ours s
 unfolding stays_of
 ours_answers s good =
     record {
-      unread = λ mid b e q. still s _ _ (unread s good mid b e q);
-      queried = λ mid b e. still s _ _ (queried s good mid b e);
+      unread = λ mid b e q. still s _ _ (unread s good mid b e q) refl;
+      queried = λ mid b e. still s _ _ (queried s good mid b e) refl;
       cleared = λ mid b e. heeds _ _ (cleared s good mid b e);
     }
 
@@ -74,13 +75,13 @@ pub ours_joins : (s : Sign) → Good s → (mid : ℕ) (b : List ℕ) (id total 
 unfolding stays_of
 ours_joins s good mid b id total position len e =
     record {
-      repeats = λ same. still s _ _ (copy_repeats s good mid b id total position len e same);
-      waits = λ other busy. still s _ _ (busy_waits s good mid b id total position len e busy other);
+      repeats = λ same. still s _ _ (copy_repeats s good mid b id total position len e same) refl;
+      waits = λ other busy. still s _ _ (busy_waits s good mid b id total position len e busy other) refl;
       begins = λ other ready new. heeds _ _ (begins s good mid b id total position len e ready other new);
-      other_total = λ other ready old apart. still s _ _ (other_total s good mid b id total position len e ready other old apart);
+      other_total = λ other ready old apart. still s _ _ (other_total s good mid b id total position len e ready other old apart) refl;
       goes_in = λ other ready old one free. heeds _ _ (goes_in s good mid b id total position len e ready other old one free);
-      again = λ other ready old one held same. still s _ _ (again s good mid b id total position len e ready other old one held same);
-      differs = λ other ready old one held apart. still s _ _ (differs s good mid b id total position len e ready other old one held apart);
+      again = λ other ready old one held same. still s _ _ (again s good mid b id total position len e ready other old one held same) refl;
+      differs = λ other ready old one held apart. still s _ _ (differs s good mid b id total position len e ready other old one held apart) refl;
     }
 
 pub ours_steps : (s : Sign) → Good s → Steps ours s

@@ -47,7 +47,7 @@ abbrev pub receive_image_before : (image answer : List ℕ) → Received → Lis
 receive_image_before image answer x = kept_of (receive_no_before image answer x) image (image_of x.sign)
 
 abbrev pub receive_answer_before : (image answer : List ℕ) → Received → List ℕ
-receive_answer_before image answer x = kept_of (receive_no_before image answer x) answer (laid (received_bytes x.outcome x.body x.len) answer)
+receive_answer_before image answer x = kept_of (receive_no_before image answer x) answer (laid (received_bytes x.outcome x.body) answer)
 
 -- with a MID that is not forbidden each call answers as without the guard; a writer's rows are those after the guard
 pub record AgreeForC : Type 0 where

@@ -33,7 +33,7 @@ answered u r mid buffer p = u.receive (behind u r mid buffer p) mid (packet_in b
 pub record Gets {R : Type 0} (u : Calls R) (r : R) (mid id : ℕ) (body buffer : List ℕ) : Type 0 where
   pub stored : (p : ℕ) → suc p < total_of body → (answered u r mid buffer p).told ≡ outcome_told (Ok Stored)
   pub nothing : (p : ℕ) → suc p < total_of body → (answered u r mid buffer p).body ≡ []
-  pub released : (p : ℕ) → suc p ≡ total_of body → (answered u r mid buffer p).told ≡ outcome_told (Ok (Released (judge_of body)))
+  pub released : (p : ℕ) → suc p ≡ total_of body → (answered u r mid buffer p).told ≡ outcome_told (Ok (Released (judge_of body) (length body)))
   pub same : (p : ℕ) → suc p ≡ total_of body → (answered u r mid buffer p).body ≡ body
   -- the ID is then completed, and nothing is collected
   pub completed : (u.holds (behind u r mid buffer (total_of body))).completed ≡ added_of (u.holds r).completed id

@@ -12,7 +12,7 @@ use Rattle.reply.specs.Reply.{heard_of, reply_rows, told_of as status_told}
 use Rattle.judge.specs.Verdict.{judge_of, told_of as verdict_told}
 use Rattle.reckon.specs.Forecast.{forecast_of, told_of as forecast_told}
 use Rattle.machine.specs.Step.{told_of as answer_told}
-use Rattle.hear.specs.Hear.{told_of as outcome_told}
+use Rattle.hear.specs.Hear.{body_length, told_of as outcome_told}
 use Rattle.sign.specs.Receive.{receive_of}
 use Rattle.sign.specs.Reset.{power_on, cleared_of}
 use Rattle.sign.specs.Step.{step_of}
@@ -72,9 +72,9 @@ value_at i t = get_or t.values i 0
 abbrev pub left_by : List Row → (bytes out : List ℕ) → Wrote
 left_by rows bytes out = record { told = written_of (first_of rows) bytes; buffer = buffer_of (first_of rows) bytes out }
 
--- our answers in the rules' numbers; the body is as long as the call says
+-- our answers in the rules' numbers; the body is as long as the outcome says
 abbrev pub heard_in : Received → Heard Sign
-heard_in r = record { told = outcome_told r.outcome; next = r.sign; body = take r.len r.body }
+heard_in r = record { told = outcome_told r.outcome; next = r.sign; body = take (body_length r.outcome) r.body }
 
 abbrev pub stepped_in : Stepped → Next Sign
 stepped_in r = record { told = answer_told r.answer; next = r.sign }

@@ -35,6 +35,7 @@ use Rattle.sign.specs.Receive.{heard_of, receive_of}
 use Rattle.service.specs.Delivery.{after_packets, answer_to, Awaits, Delivered}
 use Rattle.sign.specs.declared.Sign.{Sign}
 use Rattle.sign.specs.declared.Received.{Received}
+use Rattle.hear.specs.Hear.{body_length}
 use Rattle.hear.specs.declared.Outcome.TheVariants.{Stored}
 use Rattle.hear.proofs.Places.{stored_slots, whole_body}
 use Rattle.sign.proofs.Joining.{sound_receives}
@@ -274,7 +275,7 @@ module _ (s : Sign) (good : Good s) (mid id : ℕ) (body : List ℕ) (allowed : 
       record {
         stored = delivers_stored;
         released = λ p e. ap (λ (r : Received). r.outcome) (delivers_released p e);
-        same = λ p e. ap (λ (r : Received). take r.len r.body) (delivers_released p e) ∙ take_laid body (blank 84);
+        same = λ p e. ap (λ (r : Received). take (body_length r.outcome) r.body) (delivers_released p e) ∙ take_laid body (blank 84);
         completed = λ p e. ap (λ (t : Sign). t.completed) (delivers_left p (judge_of body) e refl) ∙ left_completed (judge_of body);
         none = λ p e. ap (λ (t : Sign). t.slots) (delivers_left p (judge_of body) e refl) ∙ left_none (judge_of body);
         holds = λ p e endless q. ap (λ (t : Sign). t.room) (delivers_left p (accepted_as endless) e q ∙ left_accepted endless);

@@ -33,8 +33,9 @@ use Rattle.sign.specs.declared.Sign.{Sign}
 use Rattle.sign.specs.declared.Received.{Received}
 use Rattle.sign.specs.declared.Cleared.{Cleared}
 use Rattle.sign.specs.declared.Stepped.{Stepped}
+use Rattle.hear.specs.Hear.{body_length}
 use Rattle.hear.specs.declared.Outcome.{Outcome}
-use Rattle.hear.specs.declared.Outcome.TheVariants.{Query, Reset, Repeat}
+use Rattle.hear.specs.declared.Outcome.TheVariants.{Query, Reset, Repeat, Stored, Released}
 use Rattle.machine.specs.declared.Stepped.{Stepped as RunStepped}
 use Rattle.machine.proofs.Keeps.{step_ready, step_busy}
 use Rattle.sign.proofs.Joining.{sound_receives, unsound_receives}
@@ -117,9 +118,18 @@ pub receive_still : (s : Sign) (mid : ℕ) (b : List ℕ) → moves_of (receive_
 unfolding stays_of
 receive_still s mid b h = ap (λ (r : Received). r.sign) (receive_stays s mid b h)
 
-pub receive_none : (s : Sign) (mid : ℕ) (b : List ℕ) → moves_of (receive_of s mid b).outcome ≡ false → take (receive_of s mid b).len (receive_of s mid b).body ≡ []
-unfolding stays_of
-receive_none s mid b h = ap (λ (r : Received). take r.len r.body) (receive_stays s mid b h)
+-- an outcome that comes with no other record releases no body
+still_length : (o : Result Outcome Refusal) → moves_of o ≡ false → body_length o ≡ 0
+still_length (Ok Query) e = refl
+still_length (Ok Reset) e = refl
+still_length (Ok Repeat) e = refl
+still_length (Ok Stored) e = refl
+still_length (Ok (Released v len)) e = moved e
+still_length (Err x) e = refl
+
+pub receive_none : (s : Sign) (mid : ℕ) (b : List ℕ) → moves_of (receive_of s mid b).outcome ≡ false
+    → take (body_length (receive_of s mid b).outcome) (receive_of s mid b).body ≡ []
+receive_none s mid b h = ap (λ (n : ℕ). take n (receive_of s mid b).body) (still_length (receive_of s mid b).outcome h)
 
 -- a Busy record is left by every packet that isn't a reset, its run and its room too
 busy_join : (s : Sign) (id total position : ℕ) (part : List ℕ) → (s.run.len ≡ 0 → ⊥) → (join_of s id total position part).sign ≡ s

@@ -14,6 +14,7 @@ use Rattle.sign.specs.Join.{stays_of}
 use Rattle.sign.specs.Receive.{receive_of}
 use Rattle.sign.specs.declared.Sign.{Sign}
 use Rattle.sign.specs.declared.Received.{Received}
+use Rattle.hear.specs.Hear.{body_length}
 use Rattle.hear.specs.declared.Outcome.TheVariants.{Stored, Released}
 
 -- the record after the first packets of a body
@@ -34,8 +35,8 @@ pub record Awaits (s : Sign) (id : ℕ) : Type 0 where
 -- the packets of a body are delivered: all but the last are Stored, with no body; the last is Released, with the same bytes
 pub record Delivered (s : Sign) (mid id : ℕ) (body : List ℕ) : Type 0 where
   pub stored : (p : ℕ) → suc p < total_of body → answer_to s mid id body p ≡ stays_of (after_packets s mid id body (suc p)) (Ok Stored)
-  pub released : (p : ℕ) → suc p ≡ total_of body → (answer_to s mid id body p).outcome ≡ Ok (Released (judge_of body))
-  pub same : (p : ℕ) → suc p ≡ total_of body → take (answer_to s mid id body p).len (answer_to s mid id body p).body ≡ body
+  pub released : (p : ℕ) → suc p ≡ total_of body → (answer_to s mid id body p).outcome ≡ Ok (Released (judge_of body) (length body))
+  pub same : (p : ℕ) → suc p ≡ total_of body → take (body_length (answer_to s mid id body p).outcome) (answer_to s mid id body p).body ≡ body
   -- the ID is then completed, and nothing is collected
   pub completed : (p : ℕ) → suc p ≡ total_of body → (answer_to s mid id body p).sign.completed ≡ added_of s.completed id
   pub none : (p : ℕ) → suc p ≡ total_of body → (answer_to s mid id body p).sign.slots ≡ slots_in none_of

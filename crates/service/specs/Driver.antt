@@ -18,7 +18,7 @@ moves_of (Ok Query) = false
 moves_of (Ok Reset) = true
 moves_of (Ok Repeat) = false
 moves_of (Ok Stored) = true
-moves_of (Ok (Released v)) = true
+moves_of (Ok (Released v len)) = true
 moves_of (Err e) = false
 
 -- whether an outcome may come with other completed IDs: a reset and a release alone
@@ -27,7 +27,7 @@ moves_completed (Ok Query) = false
 moves_completed (Ok Reset) = true
 moves_completed (Ok Repeat) = false
 moves_completed (Ok Stored) = false
-moves_completed (Ok (Released v)) = true
+moves_completed (Ok (Released v len)) = true
 moves_completed (Err e) = false
 
 -- a step, or bytes

@@ -55,7 +55,7 @@ forbidden_receives s mid b sound e = sound_receives s mid b sound ∙ ap (heard_
 -- the record after what was heard
 module _ (s : Sign) where
   abbrev pub after : Left → Received
-  after l = behind_of l.outcome (sign_of l.completed l.collection s.run) l.len
+  after l = behind_of l.outcome (sign_of l.completed l.collection s.run)
 
   abbrev stay : Result Outcome Refusal → Left
   stay o = stay_of s.completed (collected_of s) o

@@ -22,7 +22,7 @@ sign_of completed c run = record { completed = completed; slots = slots_in c; ro
 
 -- nothing changes, and no body comes with the answer
 unfoldable pub stays_of : Sign → Result Outcome Refusal → Received
-stays_of s outcome = record { sign = s; outcome = outcome; body = replicate 84 0; len = 0 }
+stays_of s outcome = record { sign = s; outcome = outcome; body = replicate 84 0 }
 
 -- an accepted body runs; with another the sign stays Ready
 abbrev pub starts_of : Verdict → Sign → Sign → Sign
@@ -38,9 +38,8 @@ unfoldable pub release_of : Sign → ℕ → List ℕ → Received
 release_of s id body =
     record {
       sign = starts_of (judge_of body) (sign_of (added_of s.completed id) (body_in body) (started_of (length body) s.run.settings)) (sign_of (added_of s.completed id) none_of s.run);
-      outcome = Ok (Released (judge_of body));
+      outcome = Ok (Released (judge_of body) (length body));
       body = room_of body;
-      len = length body;
     }
 
 -- the data joined by position is the body

@@ -22,12 +22,12 @@ heard_of s b read = read_by (stays_of s) (stays_of (reset_of s) (Ok Reset)) (joi
 unfoldable pub receive_of : Sign → ℕ → List ℕ → Received
 receive_of s mid b = when (sound_of s) (heard_of s b (read_of mid b)) (stays_of s (Err Unsound))
 
--- the record after an outcome, where hearing left all but the run as it stands here, and the length of a body released
-abbrev pub behind_of : Result Outcome Refusal → Sign → ℕ → Received
-behind_of (Ok Query) s len = stays_of s (Ok Query)
-behind_of (Ok Reset) s len =
+-- the record after an outcome, where hearing left all but the run as it stands here
+abbrev pub behind_of : Result Outcome Refusal → Sign → Received
+behind_of (Ok Query) s = stays_of s (Ok Query)
+behind_of (Ok Reset) s =
     stays_of (record { completed = s.completed; slots = s.slots; room = s.room; run = ready_of (start_settings s.run.settings.dim s.run.settings.bright) }) (Ok Reset)
-behind_of (Ok Repeat) s len = stays_of s (Ok Repeat)
-behind_of (Ok Stored) s len = stays_of s (Ok Stored)
-behind_of (Ok (Released v)) s len = record { sign = starts_of v (running_of s len) (emptied_of s); outcome = Ok (Released v); body = s.room; len = len }
-behind_of (Err e) s len = stays_of s (Err e)
+behind_of (Ok Repeat) s = stays_of s (Ok Repeat)
+behind_of (Ok Stored) s = stays_of s (Ok Stored)
+behind_of (Ok (Released v len)) s = record { sign = starts_of v (running_of s len) (emptied_of s); outcome = Ok (Released v len); body = s.room }
+behind_of (Err e) s = stays_of s (Err e)

@@ -30,13 +30,13 @@ pub struct Sign {
     pub run: Run,
 }
 
-// The record after a receive, its outcome, and the body that was released: `len` bytes of it, zeros after them.
+// The record after a receive, its outcome, and the body that was released with zeros after it. The body stands beside the outcome, since
+// `stays_of` says zeros where none is released, and C is told all 84 bytes (`received_bytes`).
 #[derive(Clone, Copy)]
 pub struct Received {
     pub sign: Sign,
     pub outcome: Result<Outcome, Refusal>,
     pub body: [u8; 84],
-    pub len: usize,
 }
 
 // The record after a reset, and whether the record was sound.

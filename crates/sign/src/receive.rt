@@ -20,7 +20,6 @@ impl Sign {
             sign: self,
             outcome,
             body: [0; 84],
-            len: 0,
         }
     }
 
@@ -54,9 +53,9 @@ impl Sign {
         }
     }
 
-    // The record after an outcome, where hearing left all but the run as it stands here, and a released body's length.
-    fn after(self, outcome: Result<Outcome, Refusal>, len: usize) -> Received
-        ensures { result ≡ behind_of outcome self len }
+    // The record after an outcome, where hearing left all but the run as it stands here.
+    fn after(self, outcome: Result<Outcome, Refusal>) -> Received
+        ensures { result ≡ behind_of outcome self }
     {
         match outcome {
             Ok(Outcome::Reset) => {
@@ -64,13 +63,12 @@ impl Sign {
                 let run = rested(settings.dim, settings.bright);
                 Sign { run, ..self }.stays(outcome)
             }
-            Ok(Outcome::Released(verdict)) => {
+            Ok(Outcome::Released { verdict, len }) => {
                 let body = self.room;
                 Received {
                     sign: self.starts(verdict, len),
                     outcome,
                     body,
-                    len,
                 }
             }
             _ => self.stays(outcome),
@@ -99,6 +97,6 @@ impl Sign {
             room,
             ..self
         };
-        next.after(heard.outcome, heard.len)
+        next.after(heard.outcome)
     }
 }

@@ -18,6 +18,7 @@ use Rattle.basis.proofs.Laid.{laid_lent, laid_copied, length_laid, take_laid, la
 use Rattle.std.specs.Prelude.{Result, Ok}
 use Rattle.refusal.specs.declared.Refusal.{Refusal}
 use Rattle.words.specs.Words.{word_of, words_of, result_of}
+use Rattle.hear.specs.Hear.{values_of, body_length}
 use Rattle.hear.specs.declared.Outcome.{Outcome}
 use Rattle.hear.specs.declared.Outcome.TheVariants.{Query, Reset, Repeat, Stored, Released}
 use Rattle.words.specs.Told.{answer_row, first_or, told_in}
@@ -114,39 +115,46 @@ heard_some Query h = omega arith
 heard_some Reset h = omega arith
 heard_some Repeat h = omega arith
 heard_some Stored h = omega arith
-heard_some (Released v) h = omega arith
+heard_some (Released v len) h = omega arith
+
+-- the words of an outcome that is no refusal
+abbrev pub words_in : Result Outcome Refusal → List ℕ
+words_in o = outcome_of o ∷ program_of o ∷ place_of o ∷ body_length o ∷ []
+
+pub outcome_words : (x : Outcome) → values_of x ++ (body_length (Ok x) ∷ []) ≡ words_in (Ok x)
+outcome_words Query = refl
+outcome_words Reset = refl
+outcome_words Repeat = refl
+outcome_words Stored = refl
+outcome_words (Released v len) = refl
 
 -- four words, and a body copied after them
-pub received_lays : (o : Result Outcome Refusal) (body : List ℕ) (len : ℕ) (answer f y : List ℕ) (p q r : ℕ) → 100 ≤ length answer → p ≡ outcome_of o → (p ≡ 0 → ⊥)
-    → q ≡ program_of o
-    → r ≡ place_of o
-    → f ≡ told_in 16 (words_of (p ∷ q ∷ r ∷ len ∷ [])) answer
+pub received_lays : (x : Outcome) (o : Result Outcome Refusal) (body answer f y ws : List ℕ) → 100 ≤ length answer → o ≡ Ok x → ws ≡ values_of x ++ (body_length (Ok x) ∷ [])
+    → f ≡ told_in (4 * length ws) (words_of ws) answer
     → length body ≡ 84 → y ≡ body
-    → put_mid 16 84 f y ≡ told_in 100 (received_bytes o body len) answer
-received_lays o body len answer f y p q r room ep yes' eq er ef size ey =
-    let ws = p ∷ q ∷ r ∷ len ∷ [] in
-    let us = outcome_of o ∷ program_of o ∷ place_of o ∷ len ∷ [] in
-    let same : ws ≡ us = rw (ep, eq, er) in
-    let at : 16 ≡ length (words_of ws) = sym (words_length ws) in
-    let fits : length (words_of ws) ≤ length answer = omega arith in
+    → put_mid 16 84 f y ≡ told_in 100 (received_bytes o body) answer
+received_lays x o body answer f y ws room eo ew ef size ey =
+    let us = words_in (Ok x) in
+    let same : ws ≡ us = ew ∙ outcome_words x in
+    let at : 16 ≡ length (words_of us) = sym (words_length us) in
+    let fits : length (words_of us) ≤ length answer = omega arith in
     let some : 16 ≤ length answer = omega arith in
-    let told : words_of us ++ body ≡ received_bytes o body len = sym (when_false (eqb (outcome_of o) 0) [] (words_of us ++ body) (ne_eqb (outcome_of o) 0 (λ z. yes' (ep ∙ z)))) in
-    let fl : f ≡ laid (words_of ws) answer = ef ∙ sym (told_room 16 (words_of ws) answer some) in
-    let enough : 100 ≤ length f = omega (arith, ap length fl ∙ length_laid (words_of ws) answer fits) in
-    let less : length (words_of ws) ≤ length (words_of ws ++ body) = omega (arith, length-append (words_of ws) body) in
+    let told : words_of us ++ body ≡ received_bytes (Ok x) body = sym (when_false (eqb (outcome_of (Ok x)) 0) [] (words_of us ++ body) (ne_eqb (outcome_of (Ok x)) 0 (heard_some x))) in
+    let fl : f ≡ laid (words_of us) answer = ef ∙ ap (λ (v : List ℕ). told_in (4 * length v) (words_of v) answer) same ∙ sym (told_room 16 (words_of us) answer some) in
+    let enough : 100 ≤ length f = omega (arith, ap length fl ∙ length_laid (words_of us) answer fits) in
+    let less : length (words_of us) ≤ length (words_of us ++ body) = omega (arith, length-append (words_of us) body) in
     laid_copied 16 100 body f y (omega arith) enough ey
     ∙ ap (λ (x : List ℕ). laid (take 16 x ++ body) x) fl
-    ∙ ap (λ (n : ℕ). laid (take n (laid (words_of ws) answer) ++ body) (laid (words_of ws) answer)) at
-    ∙ ap (λ (x : List ℕ). laid (x ++ body) (laid (words_of ws) answer)) (take_laid (words_of ws) answer)
-    ∙ laid_over (words_of ws ++ body) (words_of ws) answer less
-    ∙ ap (λ (v : List ℕ). laid (words_of v ++ body) answer) same
+    ∙ ap (λ (n : ℕ). laid (take n (laid (words_of us) answer) ++ body) (laid (words_of us) answer)) at
+    ∙ ap (λ (x : List ℕ). laid (x ++ body) (laid (words_of us) answer)) (take_laid (words_of us) answer)
+    ∙ laid_over (words_of us ++ body) (words_of us) answer less
     ∙ ap (λ (x : List ℕ). laid x answer) told
-    ∙ told_room 100 (received_bytes o body len) answer room
+    ∙ told_room 100 (received_bytes (Ok x) body) answer room
+    ∙ ap (λ (z : Result Outcome Refusal). told_in 100 (received_bytes z body) answer) (sym eo)
 
 -- nothing, where it is refused
-pub refused_lays : (o : Result Outcome Refusal) (body : List ℕ) (len : ℕ) (answer : List ℕ) → 100 ≤ length answer → outcome_of o ≡ 0
-    → answer ≡ told_in 100 (received_bytes o body len) answer
-refused_lays o body len answer room none =
+pub refused_lays : (o : Result Outcome Refusal) (body answer : List ℕ) → 100 ≤ length answer → outcome_of o ≡ 0
+    → answer ≡ told_in 100 (received_bytes o body) answer
+refused_lays o body answer room none =
     told_none 100 answer room
-    ∙ ap (λ (x : List ℕ). told_in 100 x answer)
-    (sym (when_true (eqb (outcome_of o) 0) [] (words_of (outcome_of o ∷ program_of o ∷ place_of o ∷ len ∷ []) ++ body) (eq-eqb (outcome_of o) 0 none)))
+    ∙ ap (λ (x : List ℕ). told_in 100 x answer) (sym (when_true (eqb (outcome_of o) 0) [] (words_of (words_in o) ++ body) (eq-eqb (outcome_of o) 0 none)))

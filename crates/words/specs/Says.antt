@@ -2,7 +2,7 @@
 use Rattle.std.specs.Prelude.{ℕ, List, [], ◌∷◌, ◌++◌, eqb, get_or, Result}
 use Rattle.basis.specs.Choice.{when}
 use Rattle.refusal.specs.declared.Refusal.{Refusal}
-use Rattle.hear.specs.Hear.{told_of}
+use Rattle.hear.specs.Hear.{told_of, body_length}
 use Rattle.hear.specs.declared.Outcome.{Outcome}
 use Rattle.words.specs.Words.{words_of}
 
@@ -18,5 +18,5 @@ abbrev pub place_of : Result Outcome Refusal → ℕ
 place_of o = get_or (told_of o).values 2 0
 
 -- a receive: outcome, the released program's refusal and its place, the body's length, and the body; nothing where it is refused
-abbrev pub received_bytes : Result Outcome Refusal → (body : List ℕ) → (len : ℕ) → List ℕ
-received_bytes o body len = when (eqb (outcome_of o) 0) [] (words_of (outcome_of o ∷ program_of o ∷ place_of o ∷ len ∷ []) ++ body)
+abbrev pub received_bytes : Result Outcome Refusal → (body : List ℕ) → List ℕ
+received_bytes o body = when (eqb (outcome_of o) 0) [] (words_of (outcome_of o ∷ program_of o ∷ place_of o ∷ body_length o ∷ []) ++ body)

@@ -26,6 +26,6 @@ returns c =
       | then-is_ok w ↦ stored values_of r.outcome _ _ i (image_of r.sign) _ c.is_ok.ensures.value w.if-is_ok.true (w.image-is ∙ w.store.ensures)
       | else-is_ok w ↦ stored values_of r.outcome _ _ i (image_of r.sign) _ c.is_ok.ensures.value w.if-is_ok.false w.image-is
     ] in
-    let t = subst (λ (x : Received). (c.tell_received.result ≡ first_or (answer_row 100 a.answer.now ∷ []) (told_of x.outcome).number) × (c.tell_received.new.answer ≡ told_in 100 (received_bytes x.outcome x.body x.len) a.answer.now)) e (c.tell_received.ensures.result, c.tell_received.ensures.told) in
-    let told = went (mid_row a.mid ∷ answer_row 100 a.answer.now ∷ []) i a.answer.now (told_of y.outcome).number (received_bytes y.outcome y.body y.len) (image_of y.sign) 100 c.if-image-ne-SIZE.false c.if-answer-lt100.false (ill_receives i a.mid a.bytes.now) (λ sound. mid_is a.mid 100 a.answer.now _ c.if-answer-lt100.false (forbidden_19 i a.mid a.bytes.now sound)) t.0 t.1 c.if-is_ok.image (kept ∙ ap (λ (x : Received). kept_of (told_of x.outcome).number i (image_of x.sign)) e) (quiet_receive y.outcome y.body y.len) in
+    let t = subst (λ (x : Received). (c.tell_received.result ≡ first_or (answer_row 100 a.answer.now ∷ []) (told_of x.outcome).number) × (c.tell_received.new.answer ≡ told_in 100 (received_bytes x.outcome x.body) a.answer.now)) e (c.tell_received.ensures.result, c.tell_received.ensures.told) in
+    let told = went (mid_row a.mid ∷ answer_row 100 a.answer.now ∷ []) i a.answer.now (told_of y.outcome).number (received_bytes y.outcome y.body) (image_of y.sign) 100 c.if-image-ne-SIZE.false c.if-answer-lt100.false (ill_receives i a.mid a.bytes.now) (λ sound. mid_is a.mid 100 a.answer.now _ c.if-answer-lt100.false (forbidden_19 i a.mid a.bytes.now sound)) t.0 t.1 c.if-is_ok.image (kept ∙ ap (λ (x : Received). kept_of (told_of x.outcome).number i (image_of x.sign)) e) (quiet_receive y.outcome y.body) in
     record { result = told.0; kept = told.1.0; told = told.1.1 }

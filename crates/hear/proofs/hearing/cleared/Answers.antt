@@ -11,5 +11,5 @@ use Rattle.hear.proofs.hearing.cleared.Goals as goal
 pub returns : goal.returns
 unfolding begun_of
 returns c =
-    ap (λ (s : Slots). record { outcome = Ok Reset; completed = c.none.result; collection = collection_of s (replicate 84 0); len = 0 }) c.begun.ensures
-    ∙ ap (λ (d : Completed). record { outcome = Ok Reset; completed = d; collection = none_of; len = 0 }) c.none.ensures
+    ap (λ (s : Slots). record { outcome = Ok Reset; completed = c.none.result; collection = collection_of s (replicate 84 0) }) c.begun.ensures
+    ∙ ap (λ (d : Completed). record { outcome = Ok Reset; completed = d; collection = none_of }) c.none.ensures

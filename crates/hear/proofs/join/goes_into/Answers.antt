@@ -1,13 +1,7 @@
 -- `goes_into` judges a packet by the slots: 13, a free position, or the data held there.
-use Rattle.basis.proofs.Tests.{tests}
-use mathlib.Core.Bool.{true, false}
-use mathlib.Core.Path.{ap}
 use native.Mathlib.Omega.{arith}
-use lib.ListN.{length}
 use Rattle.collect.specs.Slots.{collection_of}
-use Rattle.hear.specs.Join.{left_of, stay_of, count_of}
-use Rattle.hear.specs.declared.Heard.{Heard}
-use Rattle.hear.proofs.Joining.{into_open, held_most_14, goes_by_lem}
+use Rattle.hear.proofs.Joining.{held_most_14}
 use Rattle.hear.proofs.join.goes_into.Goals as goal
 
 pub holds-requires : goal.holds-requires

@@ -1,5 +1,4 @@
 -- `join` judges in the order of J3: Repeat, 12, then by the slots that the packet goes into.
-use Rattle.basis.proofs.Tests.{tests}
 use mathlib.Core.Path.{sym, ◌∙◌}
 use Rattle.collect.specs.Slots.{collection_of}
 use Rattle.hear.specs.Join.{left_of}

@@ -3,7 +3,6 @@ use Prim.Native.Nat.{◌+◌, ◌-◌, ◌*◌}
 use mathlib.Core.Path.{◌≡◌, sym, ap, ◌∙◌}
 use native.Mathlib.Omega.{arith}
 use lib.ListN.{length, get_or, replicate}
-use lib.Seq.{length-take-le}
 use Rattle.judge.specs.Verdict.{judge_of}
 use Rattle.completed.specs.declared.Completed.{Completed}
 use Rattle.collect.specs.Slots.{begun_of, collection_of}
@@ -31,6 +30,6 @@ returns c =
     let w = c.requires in
     let n = 14 * (a.slots.total - 1) + get_or a.slots.lens (a.slots.total - 1) 0 in
     let v = c.judge-verdict.result in
-    ap (λ (s : Slots). record { outcome = Ok (Released v); completed = c.with.result; collection = collection_of s a.room.now; len = n }) c.begun.ensures
-    ∙ ap (λ (d : Completed). record { outcome = Ok (Released v); completed = d; collection = record { id = 0; total = 0; lens = replicate 6 0; room = a.room.now }; len = n }) c.with.ensures
+    ap (λ (s : Slots). record { outcome = Ok (Released v n); completed = c.with.result; collection = collection_of s a.room.now }) c.begun.ensures
+    ∙ ap (λ (d : Completed). record { outcome = Ok (Released v n); completed = d; collection = record { id = 0; total = 0; lens = replicate 6 0; room = a.room.now } }) c.with.ensures
     ∙ whole_left a.completed k v n (whole_room k l r w) (c.judge-verdict.ensures ∙ ap judge_of (whole_body k l r w)) (sym (whole_size k l r w))

@@ -1,6 +1,6 @@
 -- Writing: N31 to N34 in the order of W18, where 19 comes first (Mid: `mid_row`), and what a writer lays into the lent
 -- buffer (W13 and W15 to W17).
-use Rattle.std.specs.Prelude.{◌≡◌, ℕ, zero, suc, ◌+◌, ◌≤◌, Bool, ltb, leb, List, [], ◌∷◌, length, nat_eq, nat_le, nat_lt, Result, Ok, Err}
+use Rattle.std.specs.Prelude.{◌≡◌, ℕ, zero, suc, ◌+◌, Bool, ltb, leb, List, [], ◌∷◌, length, nat_eq, nat_le, nat_lt, Result, Ok, Err}
 use Rattle.basis.specs.Bytes.{laid}
 use Rattle.basis.specs.Choice.{when, ◌and◌, ◌or◌, within}
 use Rattle.basis.specs.Rows.{Row, ◌if◌, first_of}
@@ -14,11 +14,7 @@ use Rattle.refusal.specs.declared.Refusal.TheVariants.{WrongBody, WrongId}
 abbrev pub bad_body : List ℕ → Bool
 bad_body body = nat_eq (length body) 0 or ltb 84 (length body)
 
--- a body of 1 to 84 bytes under an ID to 3Fh, which 31 and 32 let pass
-abbrev pub CanBeSent : ℕ → List ℕ → Type 0
-CanBeSent id body = (1 ≤ length body) × ((length body ≤ 84) × (id ≤ 0x3F))
-
--- its number of packets, or why it cannot be sent
+-- the number of a body's packets, or why it cannot be sent under this ID
 abbrev pub total_or : ℕ → List ℕ → Result ℕ Refusal
 total_or id body = when (bad_body body) (Err WrongBody) (when (nat_lt 0x3F id) (Err WrongId) (Ok (total_of body)))
 

@@ -1,10 +1,10 @@
 // Writes one packet of a body, a query or a reset into a lent buffer: W1 to W6, W13 to W15, W17 and W18, with N19 and N31
 // to N34. A refusal changes no byte, and bytes after the written ones stay.
-ghost use Rattle.std.specs.Prelude.{◌≡◌, ◌+◌, ◌%◌, ◌≤◌, [], ◌∷◌, length, take, OnOk};
+ghost use Rattle.std.specs.Prelude.{◌≡◌, ◌+◌, ◌%◌, ◌≤◌, [], ◌∷◌, length, take};
 ghost use Rattle.basis.specs.Bytes.{sum, laid};
 ghost use Rattle.packet.specs.Mid.{mid_row};
 ghost use Rattle.packet.specs.Wire.{sealed, packet_of, packet_at, query_of, reset_of};
-ghost use Rattle.packet.specs.Write.{CanBeSent, Writes, packet_rows, short_by, total_or};
+ghost use Rattle.packet.specs.Write.{Writes, packet_rows, short_by, total_or};
 
 use crate::mid::allowed;
 use crate::sum::{negated, sum_of};
@@ -58,8 +58,7 @@ fn write_fields(mid: u8, id: u8, fifth: u8, part: &[u8], out: &mut [u8])
 
 // How many packets a body has, if it and its ID can be sent.
 pub fn total(id: u8, body: &[u8]) -> Result<usize, Refusal>
-    ensures result { result ≡ total_or id body.now }
-    ensures can { OnOk result (CanBeSent id body.now) }
+    ensures { result ≡ total_or id body.now }
 {
     let n = body.len();
     if n == 0 || LONGEST < n {

@@ -305,7 +305,7 @@ one_packet_allowed κs a r r' s s' h h' = one h h'
 
 pub one_packet_total : (κs : Lifetimes.Lfts 1) (a : World.ArgsD packet_total.signature κs) (r r' : World.ResD packet_total.signature κs)
     (s s' : Clauses.AtExit (K.ended_of 1 packet_total_kinds.ps packet_total_kinds.r) κs) → packet_total_reads.Post κs a r s → packet_total_reads.Post κs a r' s' → r ≡ r'
-one_packet_total κs a r r' s s' h h' = one h.0 h'.0
+one_packet_total κs a r r' s s' h h' = one h h'
 
 pub one_packet_sum_of : (κs : Lifetimes.Lfts 1) (a : World.ArgsD packet_sum_of.signature κs) (r r' : World.ResD packet_sum_of.signature κs)
     (s s' : Clauses.AtExit (K.ended_of 1 packet_sum_of_kinds.ps packet_sum_of_kinds.r) κs) → packet_sum_of_reads.Post κs a r s → packet_sum_of_reads.Post κs a r' s' → r ≡ r'

@@ -67,7 +67,8 @@ pub fn total(id: u8, body: &[u8]) -> Result<usize, Refusal>
     if 0x3f < id {
         return Err(Refusal::WrongId);
     }
-    Ok(n.div_ceil(FULL))
+    // `div_ceil` costs more: a packet 164 instructions (162), past 1.25 of the reference, a transmission of 14 bytes 212 (203).
+    Ok((n + FULL - 1) / FULL)
 }
 
 // The packet at one position of a body, for a MID that is not judged here.

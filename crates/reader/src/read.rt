@@ -49,19 +49,28 @@ fn read_fields(id: u8, fifth: u8, len: usize) -> Result<Packet, Refusal>
     }
     let total = fifth / 16;
     let position = fifth % 16;
-    if total < 1 || 6 < total || total <= position {
+    // These stay tests of their own, and so do the two of a packet that is not full: as one `||` and one `&&` a packet of 8
+    // bytes costs 149 instructions to read (138), and a receive of 14 bytes 1308 (1297), past 1.25 of the reference.
+    if 6 < total {
         return Err(Refusal::WrongPlace);
     }
-    let len = len - AROUND;
-    if position + 1 < total && len < FULL {
-        return Err(Refusal::ShortPart);
+    // A total of 0 is wrong here too: no position is below it.
+    if total <= position {
+        return Err(Refusal::WrongPlace);
     }
-    Ok(Packet::Normal {
+    let packet = Packet::Normal {
         id,
         total,
         position,
-        len,
-    })
+        len: len - AROUND,
+    };
+    if total <= position + 1 {
+        return Ok(packet);
+    }
+    if len < FULL + AROUND {
+        return Err(Refusal::ShortPart);
+    }
+    Ok(packet)
 }
 
 // The packet's kind and fields, or the lowest number that applies, for a MID that is not judged here.

@@ -60,9 +60,9 @@ pub(crate) fn read(rt: &impl Print, body: &[u8], place: usize) -> io::Result<()>
 pub(crate) fn stood(rt: &impl Print, body: &[u8], place: usize) -> io::Result<()> {
     let bytes = Bytes(body);
     match judge::stand(body, place) {
-        Standing::Nowhere => println!(rt; "{bytes} at {place}: nowhere"),
-        Standing::Outside => println!(rt; "{bytes} at {place}: outside"),
-        Standing::Inside(behind, number) => println!(rt;
+        None => println!(rt; "{bytes} at {place}: nowhere"),
+        Some(Standing::Outside) => println!(rt; "{bytes} at {place}: outside"),
+        Some(Standing::Inside(behind, number)) => println!(rt;
             "{bytes} at {place}: inside {behind} {number}"
         ),
     }

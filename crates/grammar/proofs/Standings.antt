@@ -19,13 +19,12 @@ use Rattle.grammar.specs.Grammar.{accepted_as}
 use Rattle.grammar.specs.Reach.{Reach, start, past}
 use Rattle.loops.specs.declared.Open.{Open}
 use Rattle.judge.specs.declared.Ending.TheVariants.{Finite, Endless}
-use Rattle.std.proofs.Common.{Ok, Err}
+use Rattle.std.proofs.Common.{Ok, Err, Option, Some, None}
 use Rattle.judge.specs.declared.Standing.{Standing}
-use Rattle.judge.specs.declared.Standing.TheVariants.{Nowhere}
 use Rattle.loops.proofs.Tokens.{get_two, get_within, tokens_first, tokens_none}
 
 -- a place at a command of an accepted body, and how it stands there
-pub record At (b : List ℕ) (q : ℕ) (s : Standing) : Type 0 where
+pub record At (b : List ℕ) (q : ℕ) (s : Option Standing) : Type 0 where
   pub endless : Bool
   pub accepted : judge_of b ≡ accepted_as endless
   pub within : q < length b
@@ -33,9 +32,9 @@ pub record At (b : List ℕ) (q : ℕ) (s : Standing) : Type 0 where
   pub ended : Bool
   pub opens : List Open
   pub reached : Reach (get b) 1 q room ended opens
-  pub stands : s ≡ inside_of opens
+  pub stands : s ≡ Some (inside_of opens)
 
-abbrev passed : ℕ → Tok → List Tok → (m p : ℕ) → Bool → List Open → Standing
+abbrev passed : ℕ → Tok → List Tok → (m p : ℕ) → Bool → List Open → Option Standing
 passed q t ts m p e o = stood (move_of t m p e o) (λ next m' e' o'. stand_at q ts m' next e' o')
 
 -- the place is looked for as far as judging reaches before it
@@ -49,19 +48,19 @@ reach_stand b q (past {p = p} {m = m} {o = o} {c = c} r g x) h =
     reach_stand b q r before
     ∙ ap (λ (ts : List Tok). stand_at q ts m p false o) (tokens_first b p l)
     ∙ ap (λ (k : Tok). stand_at q (chain k (λ z. tokens_of b (p + z))) m p false o) g
-    ∙ ap (λ (k : Bool). when k (inside_of o) (passed q (good c) (tokens_of b (p + size_of c)) m p false o)) (ne_eqb p q (λ k. omega arith))
+    ∙ ap (λ (k : Bool). when k (Some (inside_of o)) (passed q (good c) (tokens_of b (p + size_of c)) m p false o)) (ne_eqb p q (λ k. omega arith))
     ∙ ap (λ (k : Structure). stood (moved p (p + size_of c) k) (λ next m' e' o'. stand_at q (tokens_of b (p + size_of c)) m' next e' o')) x
 
-here : (b : List ℕ) (q m : ℕ) (e : Bool) (o : List Open) (t : Tok) → stand_at q (chain t (λ z. tokens_of b (q + z))) m q e o ≡ inside_of o
-here b q m e o (good c) = ap (λ (k : Bool). when k (inside_of o) (passed q (good c) (tokens_of b (q + size_of c)) m q e o)) (eq-eqb q q refl)
-here b q m e o (bad w) = ap (λ (k : Bool). when k (inside_of o) (passed q (bad w) [] m q e o)) (eq-eqb q q refl)
+here : (b : List ℕ) (q m : ℕ) (e : Bool) (o : List Open) (t : Tok) → stand_at q (chain t (λ z. tokens_of b (q + z))) m q e o ≡ Some (inside_of o)
+here b q m e o (good c) = ap (λ (k : Bool). when k (Some (inside_of o)) (passed q (good c) (tokens_of b (q + size_of c)) m q e o)) (eq-eqb q q refl)
+here b q m e o (bad w) = ap (λ (k : Bool). when k (Some (inside_of o)) (passed q (bad w) [] m q e o)) (eq-eqb q q refl)
 
-of_accepted_lem : (v : Verdict) (e : Bool) (s : Standing) → v ≡ accepted_as e → of_accepted v s ≡ s
+of_accepted_lem : (v : Verdict) (e : Bool) (s : Option Standing) → v ≡ accepted_as e → of_accepted v s ≡ s
 of_accepted_lem v true s h = ap (λ (k : Verdict). of_accepted k s) h
 of_accepted_lem v false s h = ap (λ (k : Verdict). of_accepted k s) h
 
 -- a place that is reached stands so
-pub at_stands : (b : List ℕ) (q : ℕ) (s : Standing) → At b q s → stand_of b q ≡ s
+pub at_stands : (b : List ℕ) (q : ℕ) (s : Option Standing) → At b q s → stand_of b q ≡ s
 unfolding stand_of
 at_stands b q s a =
     of_accepted_lem (judge_of b) a.endless (stand_at q (tokens_of b 0) 1 0 false []) a.accepted
@@ -71,20 +70,20 @@ at_stands b q s a =
     ∙ sym a.stands
 
 -- what is found on the way: the place, and where judging stands there
-record Found (b : List ℕ) (q : ℕ) (s : Standing) : Type 0 where
+record Found (b : List ℕ) (q : ℕ) (s : Option Standing) : Type 0 where
   within : q < length b
   room : ℕ
   ended : Bool
   opens : List Open
   reached : Reach (get b) 1 q room ended opens
-  stands : s ≡ inside_of opens
+  stands : s ≡ Some (inside_of opens)
 
-module _ (b : List ℕ) (q : ℕ) (s : Standing) (some : s ≡ Nowhere → ⊥) where
-  at_place : (p m : ℕ) (e : Bool) (o : List Open) → Reach (get b) 1 p m e o → p < length b → p ≡ q → inside_of o ≡ s → Found b q s
+module _ (b : List ℕ) (q : ℕ) (s : Option Standing) (some : s ≡ None → ⊥) where
+  at_place : (p m : ℕ) (e : Bool) (o : List Open) → Reach (get b) 1 p m e o → p < length b → p ≡ q → Some (inside_of o) ≡ s → Found b q s
   at_place p m e o r l h k =
       record { within = subst (λ (x : ℕ). x < length b) h l; room = m; ended = e; opens = o; reached = subst (λ (x : ℕ). Reach (get b) 1 x m e o) h r; stands = sym k }
 
-  at_command : (p m : ℕ) (e : Bool) (o : List Open) (t : Tok) → get b p ≡ t → Reach (get b) 1 p m e o → p < length b → ((c : Part) (m' : ℕ) (e' : Bool) (o' : List Open) → get b p ≡ good c → Reach (get b) 1 (p + size_of c) m' e' o' → stand_at q (tokens_of b (p + size_of c)) m' (p + size_of c) e' o' ≡ s → Found b q s) → (k : Bool) → eqb p q ≡ k → (x : List Tok) → chain t (λ z. tokens_of b (p + z)) ≡ t ∷ x → when k (inside_of o) (passed q t x m p e o) ≡ s → Found b q s
+  at_command : (p m : ℕ) (e : Bool) (o : List Open) (t : Tok) → get b p ≡ t → Reach (get b) 1 p m e o → p < length b → ((c : Part) (m' : ℕ) (e' : Bool) (o' : List Open) → get b p ≡ good c → Reach (get b) 1 (p + size_of c) m' e' o' → stand_at q (tokens_of b (p + size_of c)) m' (p + size_of c) e' o' ≡ s → Found b q s) → (k : Bool) → eqb p q ≡ k → (x : List Tok) → chain t (λ z. tokens_of b (p + z)) ≡ t ∷ x → when k (Some (inside_of o)) (passed q t x m p e o) ≡ s → Found b q s
   at_command p m e o t g r l rest true f x y k = at_place p m e o r l (eqb-true p q f) k
   at_command p m true o t g r l rest false f x y k = absurd (some (sym k))
   at_command p m false o (bad w) g r l rest false f x y k = absurd (some (sym k))
@@ -118,7 +117,7 @@ module _ (b : List ℕ) (q : ℕ) (s : Standing) (some : s ≡ Nowhere → ⊥) 
           absurd (some (sym k ∙ ap (λ (ts : List Tok). stand_at q ts m p e o) (tokens_none b p h))))
 
 -- a place that stands anywhere is reached
-pub stands_at : (b : List ℕ) (q : ℕ) (s : Standing) → stand_of b q ≡ s → (s ≡ Nowhere → ⊥) → At b q s
+pub stands_at : (b : List ℕ) (q : ℕ) (s : Option Standing) → stand_of b q ≡ s → (s ≡ None → ⊥) → At b q s
 unfolding stand_of
 stands_at b q s h some = by (judge_of b) refl h
   where

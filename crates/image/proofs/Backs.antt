@@ -11,6 +11,7 @@ use borrow.Author.Tests.{eqb-true, eqb-false}
 use Rattle.basis.specs.Bytes.{Bytes}
 use Rattle.basis.proofs.Bytes.{byte_at, cut_length}
 use Rattle.basis.proofs.Choices.{and_parts}
+use Rattle.std.proofs.Common.{Option, Some}
 use Rattle.judge.specs.Standing.{inside_of}
 use Rattle.loops.specs.declared.Open.{Open}
 use Rattle.judge.specs.declared.Standing.{Standing}
@@ -142,7 +143,7 @@ record_back s h small =
     (rest 8)
 
 -- a loop that is held stands at or before its place
-held_before : (b : List ℕ) (q : ℕ) (o : List Open) (l : Loop) → Opens b q o → held_of (inside_of o) l ≡ true → l.place ≤ q
+held_before : (b : List ℕ) (q : ℕ) (o : List Open) (l : Loop) → Opens b q o → held_of (Some (inside_of o)) l ≡ true → l.place ≤ q
 held_before b q [] l w h = omega (arith, eqb-true l.place 0 (and_parts (eqb l.place 0) _ h).0)
 held_before b q (x ∷ []) l w h = omega (arith, w.before, eqb-true l.place x.behind (and_parts (eqb l.place x.behind) _ h).0)
 held_before b q (x ∷ y ∷ o) l w h = absurd w
@@ -160,7 +161,7 @@ run_small room r shaped sound false e =
     let parts = run_parts room r sound in
     let busy = eqb-false r.len 0 e in
     let at = busy_at room r sound busy in
-    let held : held_of (inside_of at.opens) r.inner ≡ true = sym (ap (λ (x : Standing). held_of x r.inner) at.stands) ∙ parts.held busy in
+    let held : held_of (Some (inside_of at.opens)) r.inner ≡ true = sym (ap (λ (x : Option Standing). held_of x r.inner) at.stands) ∙ parts.held busy in
     let before = held_before (body_of room r) r.place at.opens r.inner (reach_opens (body_of room r) at.reached) held in
     let fits : r.len ≤ length room = parts.fits in
     let size : length (body_of room r) ≡ r.len = length-take-le r.len room fits in

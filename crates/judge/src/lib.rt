@@ -28,21 +28,11 @@ pub enum Ending {
 // A body judged: how it goes, or why it is refused and where.
 pub type Verdict = Result<Ending, Fault>;
 
-// Where a place stands in a body: at no command of an accepted one, outside loops, or inside the loop with this place
-// behind its `L` and this number.
+// Where a command of an accepted body stands: outside loops, or inside the loop with this place behind its `L` and this number.
 #[derive(Clone, Copy)]
 pub enum Standing {
-    Nowhere,
     Outside,
     Inside(usize, u8),
-}
-
-// A body's commands walked: the verdict on them, where the place looked for stands, and what was read there if it stands anywhere.
-#[derive(Clone, Copy)]
-struct Walked {
-    verdict: Verdict,
-    found: Standing,
-    read: Result<Command, Fault>,
 }
 
 // A place found in an accepted body: where it stands, and the command there.
@@ -50,4 +40,11 @@ struct Walked {
 pub struct Found {
     pub standing: Standing,
     pub command: Command,
+}
+
+// A body's commands walked: the verdict on them, and the place that was looked for, if they are accepted and one of them is there.
+#[derive(Clone, Copy)]
+struct Walked {
+    verdict: Verdict,
+    found: Option<Found>,
 }

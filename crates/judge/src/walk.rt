@@ -1,14 +1,13 @@
 // A body's commands walked from the left, once for all that is asked of them: the verdict (L28, L29, in the order of
 // N0), and where a place stands and what is read there (R7, R8).
-ghost use Rattle.std.specs.Prelude.{◌≡◌, false, []};
+ghost use Rattle.std.specs.Prelude.{◌≡◌, Some, false, []};
 ghost use Rattle.program.specs.Command.{read_of};
 ghost use Rattle.loops.specs.Token.{tokens_of};
-ghost use Rattle.judge.specs.declared.Standing.TheVariants.{Nowhere};
 ghost use Rattle.loops.specs.Flow.{ended_of, opens_of};
 ghost use Rattle.judge.specs.Verdict.{end_of, commands_of};
-ghost use Rattle.judge.specs.Standing.{inside_of, or_else, stand_at, walked_of};
+ghost use Rattle.judge.specs.Standing.{inside_of, stand_at, placed_of, walked_of};
 
-use crate::{Ending, Standing, Walked};
+use crate::{Ending, Found, Standing, Walked};
 use loops::{Flow, turned};
 use program::{Command, read_command};
 use refusal::{Fault, Refusal};
@@ -23,67 +22,55 @@ fn inside(flow: Flow) -> Standing
     }
 }
 
-// The first of two standings that is somewhere.
-fn first(found: Standing, here: Standing) -> Standing
-    ensures { result ≡ or_else found here }
+// What was read at the place, where judging stands so, if it is a command.
+fn placed(flow: Flow, read: Result<Command, Fault>) -> Option<Found>
+    ensures { result ≡ placed_of (Some (inside_of (opens_of flow))) read }
 {
-    match found {
-        Standing::Nowhere => here,
-        Standing::Outside | Standing::Inside(_, _) => found,
-    }
+    let standing = inside(flow);
+    let command = read.ok()?;
+    Some(Found { standing, command })
 }
 
 // Where no command is left: an unclosed `L` is 26 at that `L`, and what was found then stands nowhere.
-fn over(flow: Flow, found: Standing, read: Result<Command, Fault>) -> Walked
-    ensures { result ≡ walked_of (end_of (ended_of flow) (opens_of flow)) found read }
+fn over(flow: Flow, found: Option<Found>) -> Walked
+    ensures { result ≡ walked_of (end_of (ended_of flow) (opens_of flow)) found }
 {
     match flow {
         Flow::Free => Walked {
             verdict: Ok(Ending::Finite),
             found,
-            read,
         },
         Flow::Ended => Walked {
             verdict: Ok(Ending::Endless),
             found,
-            read,
         },
         Flow::Within(open) => Walked {
             verdict: Err(Fault {
                 refusal: Refusal::WrongLoop,
                 place: open.caret,
             }),
-            found: Standing::Nowhere,
-            read,
+            found: None,
         },
     }
 }
 
 // The commands of a body, from its first byte to its end, and the place among them with what is read at it.
 pub(crate) fn walk(body: &[u8], place: usize) -> Walked
-    ensures judged { result ≡ walked_of (commands_of body.now) (stand_at place (tokens_of body.now 0) 1 0 false []) result.read }
-    ensures heard { (result.found ≡ Nowhere → ⊥) → result.read ≡ read_of body.now place }
+    ensures { result ≡ walked_of (commands_of body.now) (placed_of (stand_at place (tokens_of body.now 0) 1 0 false []) (read_of body.now place)) }
 {
     let mut at: usize = 0;
     let mut flow = Flow::Free;
-    let mut found = Standing::Nowhere;
-    // Until a command is read at the place this says nothing, and no public call shows it.
-    let mut here = Err(Fault {
-        refusal: Refusal::NoCommand,
-        place,
-    });
+    let mut found = None;
     while at < body.len() {
         let read = read_command(body, at);
         if at == place {
-            found = first(found, inside(flow));
-            here = read;
+            found = placed(flow, read);
         }
         match turned(read, at, flow) {
             Err(fault) => {
                 return Walked {
                     verdict: Err(fault),
-                    found: Standing::Nowhere,
-                    read: here,
+                    found: None,
                 };
             }
             Ok(turn) => {
@@ -92,5 +79,5 @@ pub(crate) fn walk(body: &[u8], place: usize) -> Walked
             }
         }
     }
-    over(flow, found, here)
+    over(flow, found)
 }

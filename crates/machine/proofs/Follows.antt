@@ -10,7 +10,7 @@ use borrow.Author.Tests.{le-leb}
 use Rattle.basis.specs.Bytes.{laid}
 use Rattle.basis.proofs.Choices.{and_true}
 use Rattle.basis.proofs.Laid.{take_laid, drop_laid, length_laid}
-use Rattle.std.specs.Prelude.{Result, Option}
+use Rattle.std.specs.Prelude.{Result, Option, Some}
 use Rattle.refusal.specs.declared.Refusal.{Refusal}
 use Rattle.perform.specs.declared.price.Performed.{Performed}
 use Rattle.perform.specs.Settings.{sound_of as settings_sound}
@@ -88,9 +88,9 @@ drop_zeros (suc k) zero = refl
 drop_zeros (suc k) (suc n) = drop_zeros k n
 
 -- an accepted body's first command stands outside loops
-first_outside : (b : List ℕ) (e : Bool) → judge_of b ≡ accepted_as e → 0 < length b → stand_of b 0 ≡ Outside
+first_outside : (b : List ℕ) (e : Bool) → judge_of b ≡ accepted_as e → 0 < length b → stand_of b 0 ≡ Some Outside
 first_outside b e a within =
-    at_stands b 0 Outside
+    at_stands b 0 (Some Outside)
     (record { endless = e; accepted = a; within = within; room = 1; ended = false; opens = []; reached = start; stands = refl })
 
 module _ (b : List ℕ) (e : Bool) (accepted : judge_of b ≡ accepted_as e) (σ : Settings) (set : settings_sound σ ≡ true) where
@@ -124,4 +124,4 @@ module _ (b : List ℕ) (e : Bool) (accepted : judge_of b ≡ accepted_as e) (σ
       let a = accepting b (accepted_as e) accepted (accepted_yes e) in
       running (room_of b) (started_of (length b) σ) set (λ h. omega (arith, a.0)) started_filled
       ∙ ap (λ (x : List ℕ). held_of (stand_of x 0) outside) started_body
-      ∙ ap (λ (s : Standing). held_of s outside) (first_outside b e accepted a.0)
+      ∙ ap (λ (s : Option Standing). held_of s outside) (first_outside b e accepted a.0)

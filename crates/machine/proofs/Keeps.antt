@@ -12,7 +12,7 @@ use lib.Seq.{length-take-le}
 use borrow.Author.Tests.{le-leb, lt-leb, eq-eqb, ne_eqb, eqb-true, eqb-false}
 use Rattle.basis.specs.Choice.{when}
 use Rattle.basis.proofs.Choices.{when_true, when_false, and_parts, and_true, within_parts, within_true}
-use Rattle.std.specs.Prelude.{Ok, Err, None}
+use Rattle.std.specs.Prelude.{Ok, Err, Option, Some, None}
 use Rattle.refusal.specs.declared.Refusal.TheVariants.{Unsound}
 use Rattle.perform.specs.Settings.{sound_of as settings_sound}
 use Rattle.perform.specs.declared.settings.Settings.{Settings}
@@ -64,10 +64,10 @@ settled_sound room r q fs σ p busy e h =
     ap (sound_of room) (when_true (leb r.len q) (ready_of σ) _ (le-leb r.len q behind)) ∙ ready_sound room σ e)
 
 -- a place that judging reaches in an accepted body stands in its open loops
-pub reached_stands : (b : List ℕ) (p q : ℕ) (s : Standing) (x : At b p s) (m : ℕ) (e : Bool) (o : List Open) → Reach (get b) 1 q m e o → q < length b
-    → stand_of b q ≡ inside_of o
+pub reached_stands : (b : List ℕ) (p q : ℕ) (s : Option Standing) (x : At b p s) (m : ℕ) (e : Bool) (o : List Open) → Reach (get b) 1 q m e o → q < length b
+    → stand_of b q ≡ Some (inside_of o)
 reached_stands b p q s x m e o r within =
-    at_stands b q (inside_of o)
+    at_stands b q (Some (inside_of o))
     (record { endless = x.endless; accepted = x.accepted; within = within; room = m; ended = e; opens = o; reached = r; stands = refl })
 
 -- what a record can hold of open loops: none, or one with a count left
@@ -91,13 +91,13 @@ abbrev pub Kept : List ℕ → Run → State → Type 0
 Kept room r s = (sound_of room (run_of r s) ≡ true) × Normal s
 
 -- outside loops the record holds none
-outside_held : (l : Inner) → held_of Outside l ≡ true → frames_of l ≡ []
+outside_held : (l : Inner) → held_of (Some Outside) l ≡ true → frames_of l ≡ []
 outside_held l h =
     let p = and_parts (eqb l.place 0) (eqb l.left 0) h in
     when_true (eqb l.left 0) _ _ p.1
 
 -- inside a loop it holds the place behind the `L` and a count from 1 to its number
-inside_held : (behind number : ℕ) (l : Inner) → held_of (Inside behind number) l ≡ true
+inside_held : (behind number : ℕ) (l : Inner) → held_of (Some (Inside behind number)) l ≡ true
     → (frames_of l ≡ frame behind l.left ∷ []) × ((1 ≤ l.left) × (l.left ≤ number))
 inside_held behind number l h =
     let p = and_parts (eqb l.place behind) _ h in
@@ -109,7 +109,7 @@ inside_held behind number l h =
     )
 
 -- and such a loop is held
-holds_inside : (behind number left : ℕ) → 1 ≤ left → left ≤ number → held_of (Inside behind number) (record { place = behind; left = left }) ≡ true
+holds_inside : (behind number left : ℕ) → 1 ≤ left → left ≤ number → held_of (Some (Inside behind number)) (record { place = behind; left = left }) ≡ true
 holds_inside behind number left least most =
     and_true (eqb behind behind) _ (eq-eqb behind behind refl)
     (within_true 1 left number least most)
@@ -118,7 +118,7 @@ module _ (room : List ℕ) (r : Run) (sound : sound_of room r ≡ true) (busy : 
     (x : At (body_of room r) r.place (stand_of (body_of room r) r.place)) where
   -- a place of the body that judging reaches, settled with a loop that is held there
   reached_sound : (q m : ℕ) (e : Bool) (o : List Open) (fs : List Frame) (σ : Settings) → Reach (get (body_of room r)) 1 q m e o → settings_sound σ ≡ true
-      → held_of (inside_of o) (loop_of fs) ≡ true
+      → held_of (Some (inside_of o)) (loop_of fs) ≡ true
       → frames_of (loop_of fs) ≡ fs
       → Kept room r (settle r.len q fs σ)
   reached_sound q m e o fs σ reach set held normal =
@@ -127,7 +127,7 @@ module _ (room : List ℕ) (r : Run) (sound : sound_of room r ≡ true) (busy : 
         settled_sound room r q fs σ parts busy set
             (λ within.
             let less : q < length (body_of room r) = omega arith in
-            ap (λ (s : Standing). held_of s (loop_of fs))
+            ap (λ (s : Option Standing). held_of s (loop_of fs))
             (reached_stands (body_of room r) r.place q (stand_of (body_of room r) r.place) x m e o reach less)
             ∙ held),
         settle_normal r.len q fs σ normal,
@@ -143,14 +143,14 @@ module _ (room : List ℕ) (r : Run) (sound : sound_of room r ≡ true) (busy : 
       let set = behind_sound a.kind a.number r.settings (get_act (body_of room r) r.place a g).range
       (sound_parts room r sound).set in
       reached_sound (r.place + a.size) m' e' o' [] (sets_of a r.settings) next set
-      (ap (λ (o : List Open). held_of (inside_of o) outside) (sym none))
+      (ap (λ (o : List Open). held_of (Some (inside_of o)) outside) (sym none))
       refl
   free_keeps zero (rep n z) g m' e' o' k next = let w : ◌≡◌ {A = ℕ} 0 1 = cc in absurd (omega arith)
   free_keeps (suc m) (rep n z) g m' e' o' k next =
       let one : opened r.place (rep n z) ∷ [] ≡ o' = cc in
       let l = get_loop (body_of room r) r.place n z g in
       reached_sound (r.place + z) m' e' o' (frame (r.place + z) n ∷ []) r.settings next (sound_parts room r sound).set
-      (ap (λ (o : List Open). held_of (inside_of o) (record { place = r.place + z; left = n })) (sym one)
+      (ap (λ (o : List Open). held_of (Some (inside_of o)) (record { place = r.place + z; left = n })) (sym one)
       ∙ holds_inside (r.place + z) n n l.least (omega arith))
       (one_normal (r.place + z) n l.least)
   free_keeps m close g m' e' o' k next = let w : ◌≡◌ {A = ℕ} 0 1 = cc in absurd (omega arith)
@@ -169,7 +169,7 @@ module _ (room : List ℕ) (r : Run) (sound : sound_of room r ≡ true) (busy : 
       let set = behind_sound a.kind a.number r.settings (get_act (body_of room r) r.place a g).range
       (sound_parts room r sound).set in
       reached_sound (r.place + a.size) m' e' o' (frame l.behind left ∷ []) (sets_of a r.settings) next set
-      (ap (λ (o : List Open). held_of (inside_of o) (record { place = l.behind; left = left })) (sym one)
+      (ap (λ (o : List Open). held_of (Some (inside_of o)) (record { place = l.behind; left = left })) (sym one)
       ∙ holds_inside l.behind l.number left least most)
       (one_normal l.behind left least)
   loop_keeps zero l left none least most w (rep n z) g m' e' o' k next = let v : ◌≡◌ {A = ℕ} 0 1 = cc in absurd (omega arith)
@@ -178,7 +178,7 @@ module _ (room : List ℕ) (r : Run) (sound : sound_of room r ≡ true) (busy : 
   loop_keeps m l (suc zero) none least most w close g m' e' o' k next =
       let out : [] ≡ o' = cc in
       reached_sound (r.place + 2) m' e' o' [] r.settings next (sound_parts room r sound).set
-      (ap (λ (o : List Open). held_of (inside_of o) outside) (sym out))
+      (ap (λ (o : List Open). held_of (Some (inside_of o)) outside) (sym out))
       refl
   loop_keeps m l (suc (suc j)) none least most w close g m' e' o' k next =
       reached_sound l.behind w.room false (l ∷ []) (frame l.behind (suc j) ∷ []) r.settings w.reached (sound_parts room r sound).set
@@ -191,7 +191,7 @@ module _ (room : List ℕ) (r : Run) (sound : sound_of room r ≡ true) (busy : 
   loop_keeps m l left none least most w again g m' e' o' k next = let v : ◌≡◌ {A = ℕ} 0 1 = cc in absurd (omega arith)
 
   -- so behind whatever command stands there
-  part_keeps : (m : ℕ) (o : List Open) → m + length o ≡ 1 → Opens (body_of room r) r.place o → held_of (inside_of o) r.inner ≡ true → (c : Part)
+  part_keeps : (m : ℕ) (o : List Open) → m + length o ≡ 1 → Opens (body_of room r) r.place o → held_of (Some (inside_of o)) r.inner ≡ true → (c : Part)
       → get (body_of room r) r.place ≡ good c
       → (m' : ℕ) (e' : Bool) (o' : List Open)
       → structure_of (role_in c) m (opened r.place c) o ≡ kept m' e' o'
@@ -215,8 +215,8 @@ run_keeps room r sound busy =
     let x = busy_at room r sound busy in
     let h = here b p (stand_of b p) x in
     let reach : Reach (get b) 1 p x.room false x.opens = subst (λ (e : Bool). Reach (get b) 1 p x.room e x.opens) h.going x.reached in
-    let held : held_of (inside_of x.opens) r.inner ≡ true =
-    ap (λ (s : Standing). held_of s r.inner) (sym x.stands) ∙ (sound_parts room r sound).held busy in
+    let held : held_of (Some (inside_of x.opens)) r.inner ≡ true =
+    ap (λ (s : Option Standing). held_of s r.inner) (sym x.stands) ∙ (sound_parts room r sound).held busy in
     subst (λ (t : Tok). Kept room r (went_at r.len t p (frames_of r.inner) r.settings)) (sym h.there)
     (part_keeps room r sound busy x x.room x.opens (reach_one b reach) (reach_opens b reach) held h.part h.there h.room
     h.ended

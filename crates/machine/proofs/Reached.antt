@@ -14,7 +14,7 @@ use Rattle.grammar.specs.Reach.{Reach, start, past}
 use Rattle.loops.specs.declared.Open.{Open}
 use Rattle.refusal.specs.declared.Fault.{Fault}
 use Rattle.refusal.specs.Refusal.{fault}
-use Rattle.std.proofs.Common.{Ok, Err}
+use Rattle.std.proofs.Common.{Ok, Err, Option}
 use Rattle.judge.specs.declared.Standing.{Standing}
 use Rattle.grammar.proofs.Refusals.{reach_judge}
 use Rattle.grammar.proofs.Standings.{At}
@@ -128,7 +128,7 @@ pub accepted_yes : (e : Bool) → Yes (accepted_as e)
 accepted_yes true = tt
 accepted_yes false = tt
 
-pub here : (b : List ℕ) (p : ℕ) (s : Standing) (a : At b p s) → Here b p a.room a.ended a.opens
+pub here : (b : List ℕ) (p : ℕ) (s : Option Standing) (a : At b p s) → Here b p a.room a.ended a.opens
 here b p s a =
     let v = accepted_as a.endless in
     let y = accepted_yes a.endless in

@@ -12,16 +12,13 @@ use Rattle.basis.specs.Choice.{when, ◌and◌}
 use Rattle.basis.proofs.Choices.{and_parts}
 use Rattle.basis.proofs.Tests.{tests}
 use Rattle.program.specs.Command.{read_of}
-use Rattle.program.specs.declared.Command.{Command}
 use Rattle.loops.specs.Token.{good, bad, tok_of}
-use Rattle.judge.specs.declared.Found.{Found}
 use Rattle.refusal.specs.declared.Fault.{Fault}
-use Rattle.std.proofs.Common.{Result, Ok, Err, Option, Some, None}
+use Rattle.std.proofs.Common.{Err, Option, None}
 use Rattle.judge.specs.declared.Standing.{Standing}
-use Rattle.judge.specs.declared.Standing.TheVariants.{Nowhere, Outside, Inside}
-use Rattle.refusal.proofs.Names.{some_one}
+use Rattle.judge.proofs.Turns.{found_none}
 use Rattle.grammar.proofs.Standings.{At as StandsAt, stands_at}
-use Rattle.judge.specs.Standing.{stand_of, placed_of, found_of}
+use Rattle.judge.specs.Standing.{stand_of, found_of}
 use Rattle.perform.specs.Settings.{sound_of as settings_sound}
 use Rattle.room.specs.Room.{zeros_of}
 use Rattle.grammar.specs.Grammar.{accepted_as}
@@ -66,8 +63,8 @@ pub filled_fits : (room : List ℕ) (len : ℕ) → filled_of room len ≡ true 
 filled_fits room len e = leb-true len (length room) (and_parts (leb len (length room)) _ e).0
 
 -- where a place is held it stands somewhere
-somewhere : (s : Standing) (l : Loop) → held_of s l ≡ true → s ≡ Nowhere → ⊥
-somewhere s l h e = let w : false ≡ true = sym (ap (λ (x : Standing). held_of x l) e) ∙ h in let z : ◌≡◌ {A = ℕ} 0 1 = cc in omega arith
+somewhere : (s : Option Standing) (l : Loop) → held_of s l ≡ true → s ≡ None → ⊥
+somewhere s l h e = let w : false ≡ true = sym (ap (λ (x : Option Standing). held_of x l) e) ∙ h in let z : ◌≡◌ {A = ℕ} 0 1 = cc in omega arith
 
 -- a place that is held is one at a command of an accepted body
 module _ (b : List ℕ) (p : ℕ) (l : Loop) (held : held_of (stand_of b p) l ≡ true) where
@@ -88,34 +85,9 @@ module _ (b : List ℕ) (p : ℕ) (l : Loop) (held : held_of (stand_of b p) l �
       let z : ◌≡◌ {A = ℕ} 0 1 = cc in
       omega arith
 
--- what is found at a place is where it stands and what is read there
-pub found_is : (s : Standing) (r : Result Command Fault) (f : Found) → placed_of s r ≡ Some f → (s ≡ f.standing) × (r ≡ Ok f.command)
-found_is Nowhere r f e = let z : ◌≡◌ {A = ℕ} 0 1 = cc in absurd (omega arith)
-found_is Outside (Err w) f e = let z : ◌≡◌ {A = ℕ} 0 1 = cc in absurd (omega arith)
-found_is Outside (Ok d) f e = let h = some_one e in (ap (λ (x : Found). x.standing) h, ap (λ (x : Found). Ok x.command) h)
-found_is (Inside behind number) (Err w) f e = let z : ◌≡◌ {A = ℕ} 0 1 = cc in absurd (omega arith)
-found_is (Inside behind number) (Ok d) f e = let h = some_one e in (ap (λ (x : Found). x.standing) h, ap (λ (x : Found). Ok x.command) h)
-
--- a command at a place that is held is found
-held_found : (s : Standing) (l : Loop) (c : Command) → held_of s l ≡ true → placed_of s (Ok c) ≡ Some (record { standing = s; command = c })
-held_found Nowhere l c h = let z : ◌≡◌ {A = ℕ} 0 1 = cc in absurd (omega arith)
-held_found Outside l c h = refl
-held_found (Inside behind number) l c h = refl
-
--- so a place where nothing is found is not held
+-- a place where nothing is found is not held
 pub missing_unheld : (b : List ℕ) (p : ℕ) (l : Loop) → found_of b p ≡ None → held_of (stand_of b p) l ≡ false
-missing_unheld b p l e = go (held_of (stand_of b p) l) refl
-  where
-    by : held_of (stand_of b p) l ≡ true → (r : Result Command Fault) → read_of b p ≡ r → ⊥
-    by h (Err x) w = held_good b p l h x w
-    by h (Ok c) w =
-        let k : ◌≡◌ {A = Option Found} (Some (record { standing = stand_of b p; command = c })) None = sym (held_found (stand_of b p) l c h) ∙ ap (placed_of (stand_of b p)) (sym w) ∙ e in
-        let z : ◌≡◌ {A = ℕ} 0 1 = cc in
-        omega arith
-
-    go : (t : Bool) → held_of (stand_of b p) l ≡ t → held_of (stand_of b p) l ≡ false
-    go false h = h
-    go true h = absurd (by h (read_of b p) refl)
+missing_unheld b p l e = ap (λ (s : Option Standing). held_of s l) (found_none b p e)
 
 -- the parts of a sound run, of which a Ready one has no word about the room
 pub record Parts (room : List ℕ) (r : Run) : Type 0 where

@@ -1,10 +1,10 @@
 -- Which runs are sound, with their body at the front of a room, part by part: rules R3 and R5 to R8.
-use Rattle.std.specs.Prelude.{ℕ, List, Bool, false, eqb, leb, length, take, drop}
+use Rattle.std.specs.Prelude.{ℕ, List, Bool, false, eqb, leb, length, take, drop, Option, Some, None}
 use Rattle.room.specs.Room.{zeros_of}
 use Rattle.basis.specs.Choice.{when, ◌and◌, within}
 use Rattle.judge.specs.Standing.{stand_of}
 use Rattle.judge.specs.declared.Standing.{Standing}
-use Rattle.judge.specs.declared.Standing.TheVariants.{Nowhere, Outside, Inside}
+use Rattle.judge.specs.declared.Standing.TheVariants.{Outside, Inside}
 use Rattle.perform.specs.Settings.{sound_of as settings_sound}
 use Rattle.machine.specs.declared.Loop.{Loop}
 use Rattle.machine.specs.declared.Run.{Run}
@@ -18,10 +18,10 @@ abbrev pub rests_of : ℕ → Loop → Bool
 rests_of place l = eqb place 0 and eqb l.place 0 and eqb l.left 0
 
 -- the loop place behind the enclosing `L` and a count left from 1 to its number inside a loop, both 0 outside
-abbrev pub held_of : Standing → Loop → Bool
-held_of Nowhere l = false
-held_of Outside l = eqb l.place 0 and eqb l.left 0
-held_of (Inside behind number) l = eqb l.place behind and within 1 l.left number
+abbrev pub held_of : Option Standing → Loop → Bool
+held_of None l = false
+held_of (Some Outside) l = eqb l.place 0 and eqb l.left 0
+held_of (Some (Inside behind number)) l = eqb l.place behind and within 1 l.left number
 
 -- the room holds the body, and zeros after it
 abbrev pub filled_of : List ℕ → ℕ → Bool

@@ -1,5 +1,5 @@
 // Which runs are sound: rules R3 and R5 to R8.
-ghost use Rattle.std.specs.Prelude.{◌≡◌};
+ghost use Rattle.std.specs.Prelude.{◌≡◌, Some};
 ghost use Rattle.machine.specs.Sound.{rests_of, held_of, filled_of, sound_of};
 
 use crate::{Loop, Run};
@@ -15,10 +15,9 @@ pub(crate) fn rests(place: usize, inner: Loop) -> bool
 
 // Whether the open loop is the one that the place stands in.
 pub(crate) fn held(standing: Standing, inner: Loop) -> bool
-    ensures { result ≡ held_of standing inner }
+    ensures { result ≡ held_of (Some standing) inner }
 {
     match standing {
-        Standing::Nowhere => false,
         Standing::Outside => inner.place == 0 && inner.left == 0,
         Standing::Inside(behind, number) => {
             inner.place == behind && (1..=number).contains(&inner.left)
@@ -44,6 +43,12 @@ impl Run {
         if self.len == 0 {
             return rests(self.place, self.inner);
         }
-        filled(room, self.len) && held(stand(&room[..self.len], self.place), self.inner)
+        if !filled(room, self.len) {
+            return false;
+        }
+        let Some(standing) = stand(&room[..self.len], self.place) else {
+            return false;
+        };
+        held(standing, self.inner)
     }
 }

@@ -1,23 +1,14 @@
--- `judge::places::stand` meets its contract: a body that the front refuses has no place, and in another it is found on the walk.
-use mathlib.Core.Path.{sym, ap, ◌∙◌}
-use mathlib.Core.Bool.{false}
-use mathlib.Core.List.{[]}
-use Rattle.loops.specs.Token.{tokens_of}
-use Rattle.judge.specs.Standing.{stand_at, of_accepted, stand_of}
-use Rattle.judge.specs.Verdict.{Verdict}
-use Rattle.judge.specs.declared.Walked.{Walked}
-use Rattle.judge.proofs.Turns.{front_judged, begun_front}
+-- `stand` says of a place what `find` does: a place that stands anywhere is found.
+use mathlib.Core.Path.{sym, ◌∙◌}
+use Rattle.program.specs.Command.{read_of}
+use Rattle.judge.specs.Standing.{stand_of}
+use Rattle.judge.proofs.Turns.{found_some, found_none}
 use Rattle.judge.proofs.places.stand.Goals as goal
 
-pub returns-in-Err : goal.returns-in-Err
-unfolding stand_of
-returns-in-Err c =
-    let a = c.args in
-    sym (ap (λ (v : Verdict). of_accepted v (stand_at a.place (tokens_of a.body.now 0) 1 0 false [])) (front_judged a.body.now _ (sym c.front.ensures ∙ c.in-Err.is)))
+pub returns-in_err-find : goal.returns-in_err-find
+returns-in_err-find c =
+    c.from_residual.ensures ∙ sym (found_none c.args.body.now c.args.place (sym c.in_err-find.ensures))
 
-pub returns-in-Ok : goal.returns-in-Ok
-unfolding stand_of
-returns-in-Ok c =
-    let a = c.args in
-    let e = (begun_front a.body.now (sym c.front.ensures ∙ c.in-Ok.is)).0 in
-    ap (λ (w : Walked). w.found) c.walk.ensures.judged ∙ sym (ap (λ (v : Verdict). of_accepted v (stand_at a.place (tokens_of a.body.now 0) 1 0 false [])) e)
+pub returns : goal.returns
+returns c =
+    sym (found_some (stand_of c.args.body.now c.args.place) (read_of c.args.body.now c.args.place) c.in_ok-find.field-0 (sym c.in_ok-find.ensures)).0

@@ -13,4 +13,4 @@ returns-in_err-front c =
 
 pub returns : goal.returns
 returns c =
-    ap (λ (w : Walked). w.verdict) c.walk.ensures.judged ∙ sym (begun_front c.args.body.now (sym c.in_ok-front.ensures)).0
+    ap (λ (w : Walked). w.verdict) c.walk.ensures ∙ sym (begun_front c.args.body.now (sym c.in_ok-front.ensures)).0

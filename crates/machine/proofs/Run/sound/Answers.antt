@@ -2,6 +2,7 @@
 use mathlib.Core.Path.{sym, ap, ◌∙◌}
 use Rattle.judge.specs.declared.Standing.{Standing}
 use Rattle.machine.specs.Sound.{held_of}
+use Rattle.std.proofs.Common.{Option}
 use Rattle.machine.proofs.Sounds.{unset, resting, unfilled, running}
 use borrow.Author.Rules.{rules}
 use Rattle.machine.proofs.Run.sound.Goals as goal
@@ -17,18 +18,26 @@ returns-then-self-eq0 c =
     let set = sym c.sound.ensures ∙ c.if-not-sound.false in
     c.rests.ensures ∙ sym (resting a.room.now a.self set (search rules))
 
-pub returns-else-filled : goal.returns-else-filled
-returns-else-filled c =
+pub returns-then-not-filled : goal.returns-then-not-filled
+returns-then-not-filled c =
     let a = c.args in
     let set = sym c.sound.ensures ∙ c.if-not-sound.false in
-    let bare = c.if-filled.false in
-    bare ∙ sym (unfilled a.room.now a.self set c.if-self-eq0.false (sym c.filled.ensures ∙ bare))
+    sym (unfilled a.room.now a.self set c.if-self-eq0.false (sym c.filled.ensures ∙ c.if-not-filled.true))
 
-pub returns-then-filled : goal.returns-then-filled
-returns-then-filled c =
+pub returns-in_default : goal.returns-in_default
+returns-in_default c =
     let a = c.args in
     let set = sym c.sound.ensures ∙ c.if-not-sound.false in
-    let full = sym c.filled.ensures ∙ c.if-filled.true in
+    let full = sym c.filled.ensures ∙ c.if-not-filled.false in
+    sym
+    (running a.room.now a.self set c.if-self-eq0.false full
+    ∙ ap (λ (x : Option Standing). held_of x a.self.inner) (sym c.stand.ensures ∙ c.in_default.is))
+
+pub returns : goal.returns
+returns c =
+    let a = c.args in
+    let set = sym c.sound.ensures ∙ c.if-not-sound.false in
+    let full = sym c.filled.ensures ∙ c.if-not-filled.false in
     c.held.ensures
-    ∙ ap (λ (x : Standing). held_of x a.self.inner) c.stand.ensures
+    ∙ ap (λ (x : Option Standing). held_of x a.self.inner) (sym c.in-Some.is ∙ c.stand.ensures)
     ∙ sym (running a.room.now a.self set c.if-self-eq0.false full)

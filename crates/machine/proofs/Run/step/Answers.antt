@@ -3,9 +3,11 @@ use mathlib.Core.Path.{sym, ap, ◌∙◌}
 use Rattle.program.specs.Command.{read_of}
 use Rattle.judge.specs.Standing.{stand_of}
 use Rattle.judge.specs.declared.Standing.{Standing}
+use Rattle.std.proofs.Common.{Option}
+use Rattle.judge.proofs.Turns.{found_some}
 use Rattle.machine.specs.Sound.{body_of, held_of}
 use Rattle.machine.proofs.Keeps.{step_ready, step_busy, step_unsound}
-use Rattle.machine.proofs.Sounds.{unset, resting, unfilled, running, found_is, missing_unheld}
+use Rattle.machine.proofs.Sounds.{unset, resting, unfilled, running, missing_unheld}
 use Rattle.machine.proofs.Run.step.Goals as goal
 
 pub returns-then-not-sound : goal.returns-then-not-sound
@@ -44,8 +46,8 @@ returns-then-not-held c =
     let set = sym c.sound.ensures ∙ c.if-not-sound.false in
     let busy = c.if-self-eq0.false in
     let full = sym c.filled.ensures ∙ c.if-not-filled.false in
-    let found = found_is (stand_of (body_of a.room.now a.self) a.self.place) (read_of (body_of a.room.now a.self) a.self.place) _ (sym c.find.ensures ∙ c.in-Some.is) in
-    let held = ap (λ (x : Standing). held_of x a.self.inner) found.0 ∙ sym c.held.ensures ∙ c.if-not-held.true in
+    let found = found_some (stand_of (body_of a.room.now a.self) a.self.place) (read_of (body_of a.room.now a.self) a.self.place) _ (sym c.find.ensures ∙ c.in-Some.is) in
+    let held = ap (λ (x : Option Standing). held_of x a.self.inner) found.0 ∙ sym c.held.ensures ∙ c.if-not-held.true in
     c.unsound-then-not-held.ensures ∙ sym (step_unsound a.room.now a.self (running a.room.now a.self set busy full ∙ held))
 
 pub returns-in_default : goal.returns-in_default
@@ -64,6 +66,6 @@ returns c =
     let set = sym c.sound.ensures ∙ c.if-not-sound.false in
     let busy = c.if-self-eq0.false in
     let full = sym c.filled.ensures ∙ c.if-not-filled.false in
-    let found = found_is (stand_of (body_of a.room.now a.self) a.self.place) (read_of (body_of a.room.now a.self) a.self.place) _ (sym c.find.ensures ∙ c.in-Some.is) in
-    let held = ap (λ (x : Standing). held_of x a.self.inner) found.0 ∙ sym c.held.ensures ∙ c.if-not-held.false in
+    let found = found_some (stand_of (body_of a.room.now a.self) a.self.place) (read_of (body_of a.room.now a.self) a.self.place) _ (sym c.find.ensures ∙ c.in-Some.is) in
+    let held = ap (λ (x : Option Standing). held_of x a.self.inner) found.0 ∙ sym c.held.ensures ∙ c.if-not-held.false in
     c.run.ensures ∙ sym (step_busy a.room.now a.self (running a.room.now a.self set busy full ∙ held) busy)

@@ -1,11 +1,11 @@
 #![tactic(auto)]
 
-// A whole body judged (L29): accepted, endless or not (L28), or refused with a number and a place (N21 to N28).
+// A whole body judged (L29): accepted, endless or not (L28), or refused with what is wrong and where (N21 to N28).
 // No public call has a `requires`: each answers for any bytes and any place.
 //   walk    the commands from the left, and a place among them      L26, L28, N0, N26, R7, R8
 //   begin   the refusals before any command                         N28, N21
 //   whole   a whole body judged                                     L28, L29, N0
-//   places  whether a place is at a command, and in which loop      R7, R8
+//   places  where a place stands, and the command there             R7, R8
 // The crate `loops` judges one command among those before it.
 mod begin;
 mod places;
@@ -32,7 +32,7 @@ pub type Verdict = Result<Ending, Fault>;
 #[derive(Clone, Copy)]
 pub enum Standing {
     Outside,
-    Inside(usize, u8),
+    Inside(usize, usize),
 }
 
 // A place found in an accepted body: where it stands, and the command there.

@@ -21,12 +21,13 @@ pub enum Role {
     Again,
 }
 
-// An open loop: the place of its `L`, the place behind it, and its number.
+// An open loop: the place of its `L`, the place behind it, and its number, which has the width of the places: a byte beside them is
+// followed by seven unused ones, which judging copied with each command (it took a sixth to a third more).
 #[derive(Clone, Copy)]
 pub struct Open {
     pub caret: usize,
     pub behind: usize,
-    pub number: u8,
+    pub number: usize,
 }
 
 // Where judging stands: outside loops, within one, or behind an `F` or `R`.

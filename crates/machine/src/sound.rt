@@ -20,7 +20,7 @@ pub(crate) fn held(standing: Standing, inner: Loop) -> bool
     match standing {
         Standing::Outside => inner.place == 0 && inner.left == 0,
         Standing::Inside(behind, number) => {
-            inner.place == behind && (1..=number).contains(&inner.left)
+            inner.place == behind && (1..=number).contains(&(inner.left as usize))
         }
     }
 }

@@ -37,7 +37,7 @@ fn closed(body: &[u8], outer: Open, sums: Sums) -> Totals
     };
     let again = later(body, start, first);
     let read = sums.before.plus(first.totals);
-    read.plus(again.times(outer.number - 1))
+    read.plus(again.times((outer.number - 1) as u8))
 }
 
 // An `E`, which closes the open loop.
@@ -112,7 +112,8 @@ fn told(flow: Flow, sums: Sums) -> Result<Foretold, Fault>
     }
 }
 
-// What is told of a body's commands, started at these settings.
+// What is told of a body's commands, started at these settings. The loop steps by what was read, so there is no list to go over; the
+// one of judge has the same three lines and keeps other things.
 pub(crate) fn walk(body: &[u8], settings: Settings) -> Result<Foretold, Fault>
     requires { front_of body.now ≡ begun }
     ensures { result ≡ walked_of body.now settings }

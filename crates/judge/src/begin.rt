@@ -18,7 +18,7 @@ pub fn front(body: &[u8]) -> Result<(), Fault>
             place: MOST,
         });
     }
-    if body.is_empty() || body[0] != CARET {
+    if body.first() != Some(&CARET) {
         return Err(Fault {
             refusal: Refusal::NoCaret,
             place: 0,

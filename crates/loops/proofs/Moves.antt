@@ -32,13 +32,13 @@ use Rattle.std.proofs.Common.{Result, Ok, Err}
 is_bare : Form → Bool
 is_bare Text = false
 is_bare Bare = true
-is_bare (Number lo hi most) = false
+is_bare (Number n) = false
 
 bare_is : (f : Form) → is_bare f ≡ true → f ≡ Bare
 unfolding is_bare
 bare_is Text e = let z : ◌≡◌ {A = ℕ} 0 1 = cc in absurd (omega arith)
 bare_is Bare e = refl
-bare_is (Number lo hi most) e = let z : ◌≡◌ {A = ℕ} 0 1 = cc in absurd (omega arith)
+bare_is (Number n) e = let z : ◌≡◌ {A = ℕ} 0 1 = cc in absurd (omega arith)
 
 short : Role → Form → ℕ → Bool
 short Plain f n = true

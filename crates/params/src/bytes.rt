@@ -13,10 +13,7 @@ pub const TILDE: u8 = 0x7E;
 pub fn byte_at(body: &[u8], at: usize) -> u8
     ensures { result ≡ get_or body.now at caret }
 {
-    if body.len() <= at {
-        return CARET;
-    }
-    body[at]
+    body.get(at).copied().unwrap_or(CARET)
 }
 
 // Whether a tilde may stand before this byte.

@@ -19,6 +19,14 @@ pub use text::read_text;
 // A parameter read: the place behind it, and its number, which is 0 of a text or of nothing.
 #[derive(Clone, Copy)]
 pub struct Parameter {
-    pub next: usize,
     pub number: u8,
+    pub next: usize,
+}
+
+// What a number may be (L8): its least and greatest value, and its most digits.
+#[derive(Clone, Copy)]
+pub struct Range {
+    pub least: u8,
+    pub greatest: u8,
+    pub digits: usize,
 }

@@ -12,16 +12,14 @@ use crate::kinds::{KIND_COLUMN, KIND_PLAIN, KIND_TILDE, kind_of};
 use refusal::{Fault, Refusal};
 
 // The place after the columns that stand from a place on. The end is compared and not asked of the table, which costs less.
+// The loop steps by what was read, so there is no list to go over.
 fn run_end(body: &[u8], from: usize) -> usize
     ensures { result ≡ from + run_length (drop from body.now) }
 {
     let mut at = from;
     loop {
         let x = byte_at(body, at);
-        if x == CARET {
-            return at;
-        }
-        if kind_of(x) != KIND_COLUMN {
+        if x == CARET || kind_of(x) != KIND_COLUMN {
             return at;
         }
         at += 1;
@@ -56,7 +54,8 @@ fn piece_end(body: &[u8], at: usize, kind: u8) -> usize
     at + 2
 }
 
-// The text from a place on: the place after it, or its first byte at fault.
+// The text from a place on: the place after it, or its first byte at fault. The loop steps by the piece that was read, so there is
+// no list to go over.
 pub fn read_text(body: &[u8], from: usize) -> Result<Parameter, Fault>
     ensures { result ≡ text_of 0 0 from (param_of (drop from body.now)) }
 {

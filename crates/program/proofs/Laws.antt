@@ -33,7 +33,7 @@ use Rattle.program.proofs.Parameters.{Ends, ends}
 abbrev pub TextAt : Form → ℕ → Command → Type 0
 TextAt Text at c = (c.text ≡ at) × (c.len ≡ c.next - at)
 TextAt Bare at c = (c.text ≡ 0) × (c.len ≡ 0)
-TextAt (Number lo hi most) at c = (c.text ≡ 0) × (c.len ≡ 0)
+TextAt (Number n) at c = (c.text ≡ 0) × (c.len ≡ 0)
 
 -- what a good command is made of: its row, and its parameter up to the next caret or the end
 pub record Made (b : List ℕ) (p : ℕ) (c : Command) : Type 0 where
@@ -52,7 +52,7 @@ command_made k f at (Ok r) c e = let h : command_of k f at r ≡ c = cc in by f 
         (ap (λ (d : Command). d.kind) h, ap (λ (d : Command). Ok (read_to d.next d.number)) h, (sym (ap (λ (d : Command). d.text) h), sym (ap (λ (d : Command). d.len) h) ∙ ap (λ (d : Command). d.next - at) h))
     by Bare h =
         (ap (λ (d : Command). d.kind) h, ap (λ (d : Command). Ok (read_to d.next d.number)) h, (sym (ap (λ (d : Command). d.text) h), sym (ap (λ (d : Command). d.len) h)))
-    by (Number lo hi most) h =
+    by (Number n) h =
         (ap (λ (d : Command). d.kind) h, ap (λ (d : Command). Ok (read_to d.next d.number)) h, (sym (ap (λ (d : Command). d.text) h), sym (ap (λ (d : Command). d.len) h)))
 command_made k f at (Err x) c e = let z : ◌≡◌ {A = ℕ} 0 1 = cc in absurd (omega arith)
 

@@ -37,7 +37,7 @@ pub ends : (f : Form) (place at : ℕ) (ds : List ℕ) → Ends (at + length ds)
 ends Text place at ds = text_ends 0 0 at ds
 ends Bare place at [] = omega arith
 ends Bare place at (x ∷ xs) = tt
-ends (Number lo hi most) place at ds = go (digits ds and (within 1 (length ds) most and within lo (value_of 0 ds) hi))
+ends (Number n) place at ds = go (digits ds and (within 1 (length ds) n.digits and within n.least (value_of 0 ds) n.greatest))
   where
     go : (t : Bool) → Ends (at + length ds) (when t (Ok (read_to (at + length ds) (value_of 0 ds))) (Err (fault 23 place)))
     go true = refl

@@ -11,7 +11,7 @@ use Rattle.basis.specs.Choice.{when, ◌and◌, within}
 use Rattle.params.specs.Bytes.{caret, param_of, first_of, read_to}
 use Rattle.params.specs.Text.{wrong_of, text_of}
 use Rattle.params.specs.Number.{digits, value_of, number_of}
-use Rattle.program.specs.Table.{table, row_at, known}
+use Rattle.program.specs.Table.{number, table, row_at, known}
 use Rattle.program.specs.Answers.{letters_of}
 use Rattle.program.specs.Command.{parameter_of, read_of}
 use Rattle.program.specs.declared.Kind.{Kind}
@@ -34,46 +34,47 @@ form_of II = Text
 form_of IA = Text
 form_of IB = Text
 form_of S = Text
-form_of L = Number 1 99 2
+form_of L = number 1 99 2
 form_of E = Bare
 form_of F = Bare
 form_of R = Bare
 form_of XS = Bare
 form_of XF = Bare
-form_of P = Number 1 20 2
-form_of Scans = Number 1 6 1
-form_of W = Number 1 99 2
-form_of XD = Number 1 255 3
-form_of XB = Number 0 255 3
-form_of Y = Number 0 17 2
+form_of P = number 1 20 2
+form_of Scans = number 1 6 1
+form_of W = number 1 99 2
+form_of XD = number 1 255 3
+form_of XB = number 0 255 3
+form_of Y = number 0 17 2
 
 same : Form → Form → Bool
 same Text Text = true
 same Text Bare = false
-same Text (Number a b c) = false
+same Text (Number b) = false
 same Bare Text = false
 same Bare Bare = true
-same Bare (Number a b c) = false
-same (Number x y z) Text = false
-same (Number x y z) Bare = false
-same (Number x y z) (Number a b c) = eqb x a and (eqb y b and eqb z c)
+same Bare (Number b) = false
+same (Number a) Text = false
+same (Number a) Bare = false
+same (Number a) (Number b) = eqb a.least b.least and (eqb a.greatest b.greatest and eqb a.digits b.digits)
 
 same_is : (f g : Form) → same f g ≡ true → f ≡ g
 unfolding same
 same_is Text Text e = refl
 same_is Text Bare e = let z : ◌≡◌ {A = ℕ} 0 1 = cc in absurd (omega arith)
-same_is Text (Number a b c) e = let z : ◌≡◌ {A = ℕ} 0 1 = cc in absurd (omega arith)
+same_is Text (Number b) e = let z : ◌≡◌ {A = ℕ} 0 1 = cc in absurd (omega arith)
 same_is Bare Text e = let z : ◌≡◌ {A = ℕ} 0 1 = cc in absurd (omega arith)
 same_is Bare Bare e = refl
-same_is Bare (Number a b c) e = let z : ◌≡◌ {A = ℕ} 0 1 = cc in absurd (omega arith)
-same_is (Number x y z) Text e = let w : ◌≡◌ {A = ℕ} 0 1 = cc in absurd (omega arith)
-same_is (Number x y z) Bare e = let w : ◌≡◌ {A = ℕ} 0 1 = cc in absurd (omega arith)
-same_is (Number x y z) (Number a b c) e =
-    let p = eqb-true x a (and_parts (eqb x a) _ e).0 in
-    let r = (and_parts (eqb x a) _ e).1 in
-    let q = eqb-true y b (and_parts (eqb y b) _ r).0 in
-    let s = eqb-true z c (and_parts (eqb y b) _ r).1 in
-    ap (λ (k : ℕ). Number k y z) p ∙ ap (λ (k : ℕ). Number a k z) q ∙ ap (λ (k : ℕ). Number a b k) s
+same_is Bare (Number b) e = let z : ◌≡◌ {A = ℕ} 0 1 = cc in absurd (omega arith)
+same_is (Number a) Text e = let z : ◌≡◌ {A = ℕ} 0 1 = cc in absurd (omega arith)
+same_is (Number a) Bare e = let z : ◌≡◌ {A = ℕ} 0 1 = cc in absurd (omega arith)
+same_is (Number a) (Number b) e =
+    let t = and_parts (eqb a.least b.least) _ e in
+    let u = and_parts (eqb a.greatest b.greatest) _ t.1 in
+    let x = eqb-true a.least b.least t.0 in
+    let y = eqb-true a.greatest b.greatest u.0 in
+    let z = eqb-true a.digits b.digits u.1 in
+    ap (λ (k : ℕ). number k a.greatest a.digits) x ∙ ap (λ (k : ℕ). number b.least k a.digits) y ∙ ap (λ (k : ℕ). number b.least b.greatest k) z
 
 forms : Kind → Form → ℕ → Bool
 forms k f n = same f (form_of k)
@@ -89,7 +90,7 @@ form_is b p c e =
 abbrev pub InRange : Form → ℕ → Type 0
 InRange Text n = n ≡ 0
 InRange Bare n = n ≡ 0
-InRange (Number lo hi most) n = (lo ≤ n) × (n ≤ hi)
+InRange (Number r) n = (r.least ≤ n) × (n ≤ r.greatest)
 
 abbrev Ranged : Form → Result Parameter Fault → Type 0
 Ranged f (Ok r) = InRange f r.number
@@ -107,12 +108,12 @@ ranged : (f : Form) (place at : ℕ) (ds : List ℕ) → Ranged f (parameter_of 
 ranged Text place at ds = text_ranged 0 0 at ds
 ranged Bare place at [] = refl
 ranged Bare place at (x ∷ xs) = tt
-ranged (Number lo hi most) place at ds = go (digits ds and (within 1 (length ds) most and within lo (value_of 0 ds) hi)) refl
+ranged (Number n) place at ds = go (digits ds and (within 1 (length ds) n.digits and within n.least (value_of 0 ds) n.greatest)) refl
   where
-    go : (t : Bool) → digits ds and (within 1 (length ds) most and within lo (value_of 0 ds) hi) ≡ t → Ranged (Number lo hi most) (when t (Ok (read_to (at + length ds) (value_of 0 ds))) (Err (fault 23 place)))
+    go : (t : Bool) → digits ds and (within 1 (length ds) n.digits and within n.least (value_of 0 ds) n.greatest) ≡ t → Ranged (Number n) (when t (Ok (read_to (at + length ds) (value_of 0 ds))) (Err (fault 23 place)))
     go true e =
         let r = (and_parts (digits ds) _ e).1 in
-        within_parts lo (value_of 0 ds) hi (and_parts (within 1 (length ds) most) _ r).1
+        within_parts n.least (value_of 0 ds) n.greatest (and_parts (within 1 (length ds) n.digits) _ r).1
     go false e = tt
 
 -- a good command's number lies in its kind's range
@@ -134,7 +135,7 @@ text_within b p c e =
     by : (f : Form) → TextAt f (p + (made b p c e).letters) c → c.next ≤ length b → p + (made b p c e).letters ≤ c.next → c.text + c.len ≤ length b
     by Text t w n = omega arith
     by Bare t w n = omega arith
-    by (Number lo hi most) t w n = omega arith
+    by (Number r) t w n = omega arith
 
 -- what a right number shows of its digits
 record Digits (lo hi most n : ℕ) (ds : List ℕ) : Type 0 where
@@ -178,7 +179,7 @@ pub loop_digits : (b : List ℕ) (p : ℕ) (c : Command) (e : read_of b p ≡ Ok
 loop_digits b p c e k =
     let m = made b p c e in
     let ds = param_of (drop (p + m.letters) b) in
-    let f : m.form ≡ Number 1 99 2 = form_is b p c e ∙ ap form_of k in
+    let f : m.form ≡ number 1 99 2 = form_is b p c e ∙ ap form_of k in
     let r = subst (λ (x : Form). parameter_of x p (p + m.letters) ds ≡ Ok (read_to c.next c.number)) f m.right in
     let d = two_digits c.number ds (digits_shown 1 99 2 p (p + m.letters) c.number c.next ds r) in
     let n = m.next in

@@ -1,11 +1,11 @@
 -- Laws of the table: three bytes decide the row, and the caret and the letters of each row are two or three bytes.
 use Prim.Native.Nat.{ℕ, ◌+◌, ◌≤◌, ◌<◌}
 use mathlib.Core.Path.{◌≡◌, refl, sym, ap, ◌∙◌}
-use mathlib.Core.Bool.{Bool, true, false}
+use mathlib.Core.Bool.{Bool, true, false, not}
 use mathlib.Core.List.{List, [], ◌∷◌}
 use native.Mathlib.Omega.{arith}
-use borrow.Author.Tests.{leb-true, ne_eqb}
-use lib.Dec.{leb}
+use borrow.Author.Tests.{leb-true, eq-eqb, ne_eqb, eqb-true}
+use lib.Dec.{eqb, leb}
 use lib.ListN.{length, get_or, drop, length-drop, drop_of_length-le}
 use lib.Seq.{get_or-drop}
 use Rattle.basis.specs.Choice.{when, ◌and◌}
@@ -15,7 +15,9 @@ use Rattle.program.specs.Command.{row_of, read_of}
 use Rattle.program.specs.declared.Kind.{Kind}
 use Rattle.program.specs.declared.Form.{Form}
 use Rattle.program.specs.declared.Row.{Row}
-use Rattle.std.proofs.Common.{Some, None, Option}
+use Rattle.std.proofs.Common.{Some, None, Option, Bor}
+use Rattle.std.specs.Slice.{IsItemAt}
+use Rattle.std.specs.Option.{option_eq}
 use Rattle.basis.proofs.Lists.{drop_next, get_or_other}
 use Rattle.basis.proofs.Choices.{and_parts}
 
@@ -86,6 +88,28 @@ row_no_caret b p h n =
 
 pub row_behind : (b : List ℕ) (p : ℕ) → length b ≤ p → row_at table (drop p b) ≡ None
 row_behind b p h = ap (row_at table) (drop_of_length-le b h)
+
+-- whether the library's `get` finds a caret at a place
+pub got_caret : (b : List ℕ) (p : ℕ) (r : Option (Bor ℕ)) (k : Bor ℕ) → IsItemAt b p r → k.now ≡ caret
+    → false ≡ not (option_eq (λ (x y : Bor ℕ). eqb x.now y.now) r (Some k)) → (p < length b) × (get_or b p 0 ≡ caret)
+got_caret b p None k h e t = let z : ◌≡◌ {A = ℕ} 0 1 = cc in absurd (omega arith)
+got_caret b p (Some x) k h e t =
+    let same : eqb x.now k.now ≡ true = by (eqb x.now k.now) t in
+    (h.3.0, sym (h.4 (omega arith) 0) ∙ eqb-true x.now k.now same ∙ e)
+  where
+    by : (u : Bool) → false ≡ not u → u ≡ true
+    by true w = refl
+    by false w = let z : ◌≡◌ {A = ℕ} 0 1 = cc in absurd (omega arith)
+
+pub got_other : (b : List ℕ) (p : ℕ) (r : Option (Bor ℕ)) (k : Bor ℕ) → IsItemAt b p r → k.now ≡ caret
+    → true ≡ not (option_eq (λ (x y : Bor ℕ). eqb x.now y.now) r (Some k)) → row_at table (drop p b) ≡ None
+got_other b p None k h e t = row_behind b p h.3
+got_other b p (Some x) k h e t =
+    row_no_caret b p h.3.0 (λ c. by (eqb x.now k.now) (eq-eqb x.now k.now (h.4 (omega arith) 0 ∙ c ∙ sym e)) t)
+  where
+    by : (u : Bool) → u ≡ true → true ≡ not u → ⊥
+    by true v w = let z : ◌≡◌ {A = ℕ} 0 1 = cc in omega arith
+    by false v w = let z : ◌≡◌ {A = ℕ} 0 1 = cc in omega arith
 
 -- what stands at a place, by the row that was found there
 module _ (b : List ℕ) (p x y : ℕ) (found : Option Row) (h : p < length b) (e : get_or b p 0 ≡ caret) (ex : x ≡ get_or b (p + 1) caret) (ey : y ≡ get_or b (p + 2) caret) (ef : found ≡ row_at table (caret ∷ x ∷ y ∷ [])) where

@@ -23,13 +23,13 @@ bare_of at (x ∷ xs) = Err (fault 24 at)
 abbrev pub parameter_of : Form → (place at : ℕ) → List ℕ → Result Parameter Fault
 parameter_of Text place at ds = text_of 0 0 at ds
 parameter_of Bare place at ds = bare_of at ds
-parameter_of (Number lo hi most) place at ds = number_of lo hi most place at ds
+parameter_of (Number n) place at ds = number_of n.least n.greatest n.digits place at ds
 
 -- the command of a kind whose parameter stands from `at` on; what it lacks is 0
 abbrev pub command_of : Kind → Form → ℕ → Parameter → Command
 command_of k Text at r = record { next = r.next; number = r.number; text = at; len = r.next - at; kind = k }
 command_of k Bare at r = record { next = r.next; number = r.number; text = 0; len = 0; kind = k }
-command_of k (Number lo hi most) at r = record { next = r.next; number = r.number; text = 0; len = 0; kind = k }
+command_of k (Number n) at r = record { next = r.next; number = r.number; text = 0; len = 0; kind = k }
 
 -- the same, or what is wrong with its parameter
 abbrev pub made_of : Kind → Form → ℕ → Result Parameter Fault → Result Command Fault

@@ -8,6 +8,10 @@ use Rattle.program.specs.declared.Form.{Form}
 use Rattle.program.specs.declared.Form.TheVariants.{Text, Bare, Number}
 use Rattle.program.specs.declared.Row.{Row}
 
+-- a number from a least to a greatest value, of so many digits at most
+abbrev pub number : (least greatest most : ℕ) → Form
+number least greatest most = Number (record { least = least; greatest = greatest; digits = most })
+
 -- a line of the table: the caret and the letters, the kind, what follows
 pub data Line : Type 0 where
   line : List ℕ → Kind → Form → Line
@@ -25,18 +29,18 @@ table =
     ∷ two 0x49 0x41 IA Text
     ∷ two 0x49 0x42 IB Text
     ∷ one 0x53 S Text
-    ∷ one 0x4C L (Number 1 99 2)
+    ∷ one 0x4C L (number 1 99 2)
     ∷ one 0x45 E Bare
     ∷ one 0x46 F Bare
     ∷ one 0x52 R Bare
     ∷ two 0x58 0x53 XS Bare
     ∷ two 0x58 0x46 XF Bare
-    ∷ one 0x50 P (Number 1 20 2)
-    ∷ one 0x3D Scans (Number 1 6 1)
-    ∷ one 0x57 W (Number 1 99 2)
-    ∷ two 0x58 0x44 XD (Number 1 255 3)
-    ∷ two 0x58 0x42 XB (Number 0 255 3)
-    ∷ one 0x59 Y (Number 0 17 2)
+    ∷ one 0x50 P (number 1 20 2)
+    ∷ one 0x3D Scans (number 1 6 1)
+    ∷ one 0x57 W (number 1 99 2)
+    ∷ two 0x58 0x44 XD (number 1 255 3)
+    ∷ two 0x58 0x42 XB (number 0 255 3)
+    ∷ one 0x59 Y (number 0 17 2)
     ∷ []
 
 -- whether the bytes begin with these letters

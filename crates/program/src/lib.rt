@@ -11,6 +11,7 @@ mod letters;
 mod reader;
 mod table;
 
+use params::Range;
 pub use reader::read_command;
 
 // The sixteen commands, by their letters; `Scans` is `=`. They are numbered from 1 where a kind is told as a number (S2).
@@ -34,12 +35,12 @@ pub enum Kind {
     Y,
 }
 
-// What follows a command's letters: a text, nothing, or a number with its least and greatest value and its most digits.
+// What follows a command's letters: a text, nothing, or a number of this range.
 #[derive(Clone, Copy)]
 pub enum Form {
     Text,
     Bare,
-    Number(u8, u8, usize),
+    Number(Range),
 }
 
 // The row of the table that a command's letters name, with how many bytes the caret and the letters take.
@@ -50,12 +51,13 @@ pub struct Row {
     pub letters: usize,
 }
 
-// One command: `next` is the place behind it; what it lacks is 0.
+// One command: `next` is the place behind it. What it lacks is 0 and no `Option`, because the rules tell a step's answer as numbers,
+// with 0 for what a command lacks (S2 to S4).
 #[derive(Clone, Copy)]
 pub struct Command {
-    pub next: usize,
+    pub kind: Kind,
     pub number: u8,
+    pub next: usize,
     pub text: usize,
     pub len: usize,
-    pub kind: Kind,
 }

@@ -15,19 +15,15 @@ fn parameter(body: &[u8], place: usize, from: usize, form: Form) -> Result<Param
 {
     match form {
         Form::Text => read_text(body, from),
-        Form::Bare => {
-            if byte_at(body, from) == CARET {
-                return Ok(Parameter {
-                    next: from,
-                    number: 0,
-                });
-            }
-            Err(Fault {
-                refusal: Refusal::WrongByte,
-                place: from,
-            })
-        }
-        Form::Number(lo, hi, most) => read_number(body, place, from, lo, hi, most),
+        Form::Bare if byte_at(body, from) == CARET => Ok(Parameter {
+            next: from,
+            number: 0,
+        }),
+        Form::Bare => Err(Fault {
+            refusal: Refusal::WrongByte,
+            place: from,
+        }),
+        Form::Number(range) => read_number(body, place, from, range),
     }
 }
 
@@ -39,7 +35,7 @@ fn command(kind: Kind, form: Form, from: usize, read: Parameter) -> Command
     let Parameter { next, number } = read;
     let (text, len) = match form {
         Form::Text => (from, next - from),
-        Form::Bare | Form::Number(_, _, _) => (0, 0),
+        Form::Bare | Form::Number(_) => (0, 0),
     };
     Command {
         next,
@@ -58,7 +54,7 @@ pub fn read_command(body: &[u8], place: usize) -> Result<Command, Fault>
         refusal: Refusal::NoCommand,
         place,
     };
-    if body.len() <= place || body[place] != CARET {
+    if body.get(place) != Some(&CARET) {
         return Err(wrong);
     }
     let x = byte_at(body, place + 1);

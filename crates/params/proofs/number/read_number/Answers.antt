@@ -5,13 +5,13 @@ use Rattle.params.specs.Bytes.{param_of}
 use Rattle.params.proofs.Numbers.{number_wrong, value_grows, next_value}
 use Rattle.params.proofs.number.read_number.Goals as goal
 
-pub returns-then-hi-value : goal.returns-then-hi-value
-returns-then-hi-value c =
-    let l = c.loop-wrong in
+pub returns-then-range-value : goal.returns-then-range-value
+returns-then-range-value c =
+    let l = c.loop-x in
     let a = c.args in
-    let v = l.value * 10 + (c.byte_at-x.result - 0x30) in
-    number_wrong a.lo a.hi a.most a.place a.from (param_of (drop a.from a.body.now))
+    let v = l.value * 10 + (c.byte_at.result - 0x30) in
+    number_wrong a.range.least a.range.greatest a.range.digits a.place a.from (param_of (drop a.from a.body.now))
     (λ d one few low high.
-    let k = next_value a.body.now a.from l.at l.value c.byte_at-x.result l.invariant.3 c.byte_at-x.ensures c.if-x-eq-CARET.false in
+    let k = next_value a.body.now a.from l.at l.value c.byte_at.result l.invariant.3 c.byte_at.ensures (λ e. omega arith) in
     let g = value_grows (param_of (drop (l.at + 1) a.body.now)) v in
     omega arith)

@@ -5,8 +5,8 @@ use lib.ListN.{length}
 use Rattle.params.proofs.Numbers.{Passed}
 use Rattle.params.proofs.number.read_number.Given as goal
 
-abbrev pub invariant-loop-wrong : goal.invariant-loop-wrong
-invariant-loop-wrong l = (l.from ≤ l.at) × (l.at ≤ l.from + l.most) × (l.value ≤ l.hi) × Passed l.body l.from l.at l.value
+abbrev pub invariant-loop-x : goal.invariant-loop-x
+invariant-loop-x l = (l.from ≤ l.at) × (l.at ≤ l.from + l.range.digits) × (l.value ≤ l.range.greatest) × Passed l.body l.from l.at l.value
 
-abbrev pub decreases-loop-wrong : goal.decreases-loop-wrong
-decreases-loop-wrong l = length l.body - l.at
+abbrev pub decreases-loop-x : goal.decreases-loop-x
+decreases-loop-x l = length l.body - l.at

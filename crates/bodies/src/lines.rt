@@ -4,7 +4,8 @@ use arrayvec::ArrayVec;
 use input::{digit, pair};
 use std::io;
 
-// The bytes that a text writes, as many as are tried at most: two digits between < and > write one, any other byte itself.
+// The bytes that a text writes, as many as are tried at most: two digits between < and > write one, any other byte itself. The script
+// of the crate `bus` writes each byte as two digits, so it has a reading of its own.
 fn decode(text: &[u8]) -> ArrayVec<u8, 128> {
     let mut written = text.iter().copied();
     let mut body = ArrayVec::new();

@@ -6,7 +6,8 @@ use input::pair;
 use sign::Sign;
 use std::io;
 
-// The bytes that a line writes behind its first two, as many as there is room for.
+// The bytes that a line writes behind its first two, as many as there is room for. The script of the crate `bodies` writes most bytes
+// as themselves, so it has a reading of its own.
 fn decode<const N: usize>(text: &[u8]) -> ArrayVec<u8, N> {
     let mut bytes = ArrayVec::new();
     for digits in text.chunks_exact(2).skip(1).take(N) {

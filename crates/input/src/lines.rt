@@ -10,7 +10,7 @@ fn first_end(text: &[u8]) -> Option<usize>
 }
 
 // The place of the next line end from a place on, or the end of the text; a place behind the end is its own. The line lies in what
-// is left of the text, as its caller cuts it out there.
+// is left of the text, so that a caller can cut it out there.
 pub fn line_end(text: &[u8], from: usize) -> usize
     ensures { (result ≡ line_end from (drop from text.now)) × ((from ≤ result) × (result - from ≤ length text.now - from)) }
 {

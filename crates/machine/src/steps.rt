@@ -11,9 +11,8 @@ use crate::sound::{filled, held, rests};
 use crate::{Loop, Run, Stepped};
 use judge::find;
 use loops::{Role, role_of};
-use measure::measure_at;
-use perform::{Settings, perform};
-use program::{Command, Kind};
+use perform::{Settings, perform_at};
+use program::Command;
 use refusal::Refusal;
 
 // The loop that a record holds, if a count is left.
@@ -66,10 +65,16 @@ impl Run {
         self.settled(self.inner.place, self.inner, self.settings)
     }
 
-    // The run behind a command of this kind and number that ends before `next`.
-    fn moved(self, kind: Kind, number: u8, next: usize) -> Run
-        ensures { result ≡ moved_of (role_of kind) kind number self next }
+    // The run behind a command.
+    fn moved(self, command: Command) -> Run
+        ensures { result ≡ moved_of (role_of command.kind) command.kind command.number self command.next }
     {
+        let Command {
+            kind,
+            number,
+            next,
+            ..
+        } = command;
         match role_of(kind) {
             Role::Plain => {
                 self.settled(next, kept(self.inner), self.settings.behind(kind, number))
@@ -92,20 +97,9 @@ impl Run {
         requires { (held_of (stand_of body.now self.place) self.inner ≡ true) × (read_of body.now self.place ≡ Ok command) }
         ensures { result ≡ ran_of body.now self }
     {
-        let kind = command.kind;
-        let number = command.number;
-        let widths = measure_at(body, command.text, command.len);
-        let said = perform(
-            kind,
-            number,
-            command.text,
-            command.len,
-            widths,
-            self.settings,
-        );
         Stepped {
-            run: self.moved(kind, number, command.next),
-            answer: Ok(Some(said)),
+            run: self.moved(command),
+            answer: Ok(Some(perform_at(body, command, self.settings))),
         }
     }
 

@@ -1,10 +1,11 @@
 -- What a command answers when it is performed (S1 to S5, S17, S18), and its price in scans (S19) and milliseconds (S20,
 -- S21).
-use Rattle.std.specs.Prelude.{ℕ, ◌*◌, eqb}
+use Rattle.std.specs.Prelude.{ℕ, ◌*◌, List, eqb, take, drop}
 use Rattle.basis.specs.Choice.{when}
 use Rattle.units.specs.Units.{sum_of, scans_of as scans_each, millis_of as millis_at}
-use Rattle.measure.specs.Width.{fits_of, column_of as centred}
+use Rattle.measure.specs.Width.{widths_of, counted_of, fits_of, column_of as centred}
 use Rattle.measure.specs.declared.width.Widths.{Widths}
+use Rattle.program.specs.declared.Command.{Command}
 use Rattle.program.specs.declared.Kind.{Kind}
 use Rattle.program.specs.declared.Kind.TheVariants.{II, IA, IB, S, L, E, F, R, XS, XF, P, Scans, W, XD, XB, Y}
 use Rattle.perform.specs.declared.price.Doing.{Doing}
@@ -84,3 +85,7 @@ answer_of k number text len w σ =
       scans = record { 0 = n };
       millis = record { 0 = millis_of d number n σ.pace };
     }
+
+-- a command of a body, performed at these settings: its text is measured where it stands
+abbrev pub answer_at : List ℕ → Command → Settings → Performed
+answer_at b c σ = answer_of c.kind c.number c.text c.len (counted_of (widths_of (take c.len (drop c.text b)))) σ

@@ -6,5 +6,5 @@
 mod price;
 mod settings;
 
-pub use price::{Performed, perform};
+pub use price::{Performed, perform, perform_at};
 pub use settings::Settings;

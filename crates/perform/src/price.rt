@@ -1,10 +1,11 @@
 // What a command answers when it is performed (S1 to S5, S18), with its price in scans (S19) and milliseconds (S20).
-ghost use Rattle.std.specs.Prelude.{◌≡◌};
-ghost use Rattle.perform.specs.Price.{doing_of, streams_of, acts_of, shifts_of, scans_of, millis_of, column_of, shown_of, answer_of};
+ghost use Rattle.std.specs.Prelude.{◌≡◌, take, drop};
+ghost use Rattle.measure.specs.Width.{widths_of, counted_of};
+ghost use Rattle.perform.specs.Price.{doing_of, streams_of, acts_of, shifts_of, scans_of, millis_of, column_of, shown_of, answer_of, answer_at};
 
 use crate::Settings;
-use measure::{Widths, fits, start_column};
-use program::Kind;
+use measure::{Widths, fits, measure_at, start_column};
+use program::{Command, Kind};
 use units::{Amount, Millis, Scans, Shifts};
 
 // What one step answers: kind, number as written, text place and length, start column, scans, milliseconds.
@@ -111,17 +112,29 @@ fn shown(doing: Doing, kind: Kind) -> Kind
     }
 }
 
-// A command of this kind, number, text place and length, and widths of its text, performed at these settings.
-pub fn perform(
-    kind: Kind,
-    number: u8,
-    text: usize,
-    len: usize,
-    widths: Widths,
-    settings: Settings,
-) -> Performed
-    ensures { result ≡ answer_of kind number text len widths settings }
+// The widths of the text of so many bytes at a place of a body, which is only measured where there is a text. Without the hint the
+// measuring is inlined here, and all this is a call for each command.
+#[inline(always)]
+fn measured(body: &[u8], place: usize, len: usize) -> Widths
+    ensures { result ≡ counted_of (widths_of (take len (drop place body.now))) }
 {
+    if len == 0 {
+        return Widths { whole: 0, lit: 0 };
+    }
+    measure_at(body, place, len)
+}
+
+// A command performed at these settings, with these widths of its text.
+pub fn perform(command: Command, widths: Widths, settings: Settings) -> Performed
+    ensures { result ≡ answer_of command.kind command.number command.text command.len widths settings }
+{
+    let Command {
+        kind,
+        number,
+        text,
+        len,
+        ..
+    } = command;
     let doing = acts(kind, widths);
     let cost = scans(doing, widths, settings.scans);
     Performed {
@@ -133,4 +146,13 @@ pub fn perform(
         scans: cost,
         millis: millis(doing, number, cost, settings.pace),
     }
+}
+
+// A command of a body performed at these settings: its text is measured where it stands. Without the hint it is a call where a
+// forecast goes over the commands, which costs half as much again.
+#[inline(always)]
+pub fn perform_at(body: &[u8], command: Command, settings: Settings) -> Performed
+    ensures { result ≡ answer_at body.now command settings }
+{
+    perform(command, measured(body, command.text, command.len), settings)
 }

@@ -98,6 +98,9 @@ use Rattle.loops.proofs.role_of.Reads as loops_role_of_reads
 use Rattle.perform.specs.contracts.perform as perform_perform
 use Rattle.perform.proofs.perform.Kinds as perform_perform_kinds
 use Rattle.perform.proofs.perform.Reads as perform_perform_reads
+use Rattle.perform.specs.contracts.perform_at as perform_perform_at
+use Rattle.perform.proofs.perform_at.Kinds as perform_perform_at_kinds
+use Rattle.perform.proofs.perform_at.Reads as perform_perform_at_reads
 use Rattle.perform.specs.contracts.settings.Settings.sound as perform_settings_settings_sound
 use Rattle.perform.proofs.settings.Settings.sound.Kinds as perform_settings_settings_sound_kinds
 use Rattle.perform.proofs.settings.Settings.sound.Reads as perform_settings_settings_sound_reads
@@ -389,6 +392,10 @@ one_loops_role_of κs a r r' s s' h h' = one h h'
 pub one_perform_perform : (κs : Lifetimes.Lfts 0) (a : World.ArgsD perform_perform.signature κs) (r r' : World.ResD perform_perform.signature κs)
     (s s' : Clauses.AtExit (K.ended_of 0 perform_perform_kinds.ps perform_perform_kinds.r) κs) → perform_perform_reads.Post κs a r s → perform_perform_reads.Post κs a r' s' → r ≡ r'
 one_perform_perform κs a r r' s s' h h' = one h h'
+
+pub one_perform_perform_at : (κs : Lifetimes.Lfts 1) (a : World.ArgsD perform_perform_at.signature κs) (r r' : World.ResD perform_perform_at.signature κs)
+    (s s' : Clauses.AtExit (K.ended_of 1 perform_perform_at_kinds.ps perform_perform_at_kinds.r) κs) → perform_perform_at_reads.Post κs a r s → perform_perform_at_reads.Post κs a r' s' → r ≡ r'
+one_perform_perform_at κs a r r' s s' h h' = one h h'
 
 pub one_perform_settings_settings_sound : (κs : Lifetimes.Lfts 0) (a : World.ArgsD perform_settings_settings_sound.signature κs) (r r' : World.ResD perform_settings_settings_sound.signature κs)
     (s s' : Clauses.AtExit (K.ended_of 0 perform_settings_settings_sound_kinds.ps perform_settings_settings_sound_kinds.r) κs) → perform_settings_settings_sound_reads.Post κs a r s → perform_settings_settings_sound_reads.Post κs a r' s' → r ≡ r'

@@ -1,6 +1,5 @@
 // The forecast: rules S22 to S26 and S32, with each loop read twice at most (S27), and N17.
-ghost use Rattle.std.specs.Prelude.{◌≡◌, ◌≤◌, length, take, drop, Ok};
-ghost use Rattle.measure.specs.Width.{widths_of, counted_of};
+ghost use Rattle.std.specs.Prelude.{◌≡◌, ◌≤◌, length, Ok};
 ghost use Rattle.program.specs.Command.{read_of};
 ghost use Rattle.loops.specs.Token.{get};
 ghost use Rattle.loops.specs.Token.{role_of};
@@ -11,8 +10,7 @@ use crate::Totals;
 use crate::walk::walk;
 use judge::front;
 use loops::{Role, role_of};
-use measure::{Widths, measure_at};
-use perform::{Settings, perform};
+use perform::{Settings, perform_at};
 use program::{Command, Kind, read_command};
 use refusal::{Fault, Refusal};
 
@@ -24,34 +22,17 @@ pub struct Reckoned {
     pub totals: Totals,
 }
 
-// The widths of the text of so many bytes at a place of a body, which is only measured where there is a text.
-fn measured(body: &[u8], place: usize, len: usize) -> Widths
-    ensures { result ≡ counted_of (widths_of (take len (drop place body.now))) }
-{
-    if len == 0 {
-        return Widths { whole: 0, lit: 0 };
-    }
-    measure_at(body, place, len)
-}
-
 // The command at the place, added. Two walks call this, and without the hint it is a call in both, which costs more with each command.
 #[inline(always)]
 pub(crate) fn added(body: &[u8], command: Command, at: Reckoned) -> Reckoned
     requires { (read_of body.now at.place ≡ Ok command) × (length body.now ≤ 84) }
     ensures { result ≡ added_of (get body.now at.place) at }
 {
-    let kind = command.kind;
-    let number = command.number;
-    let text = command.text;
-    let count = command.len;
-    let settings = at.settings;
-    let totals = at.totals;
-    let widths = measured(body, text, count);
-    let performed = perform(kind, number, text, count, widths, settings);
+    let performed = perform_at(body, command, at.settings);
     Reckoned {
         place: command.next,
-        settings: settings.behind(kind, number),
-        totals: totals.plus(Totals::cost(performed)),
+        settings: at.settings.behind(command.kind, command.number),
+        totals: at.totals.plus(Totals::cost(performed)),
     }
 }
 

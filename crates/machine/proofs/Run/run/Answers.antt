@@ -1,6 +1,5 @@
 -- `run` performs the command at its place.
 use native.Mathlib.Omega.{arith}
-use mathlib.Core.Path.{◌∙◌}
 use Rattle.measure.proofs.Columns.{part_all}
 use Rattle.machine.proofs.Moves.{ran_good}
 use Rattle.machine.proofs.Sounds.{held_most}
@@ -12,5 +11,5 @@ returns c =
     let p = c.requires in
     let d = a.command in
     let most = held_most a.body.now a.self.place a.self.inner p.0 in
-    let wide = c.measure_at-widths.ensures ∙ part_all a.body.now d.text d.len (omega (arith, most)) in
-    ran_good a.body.now a.self d c.measure_at-widths.result c.moved.result c.perform-said.result p.1 wide c.perform-said.ensures c.moved.ensures
+    let wide = part_all a.body.now d.text d.len (omega (arith, most)) in
+    ran_good a.body.now a.self d _ c.moved.result c.perform_at.result p.1 wide c.perform_at.ensures c.moved.ensures

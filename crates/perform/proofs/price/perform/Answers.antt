@@ -4,7 +4,8 @@ use Rattle.perform.proofs.price.perform.Goals as goal
 pub returns : goal.returns
 returns c =
     let a = c.args in
-    answer_is a.kind a.number a.text a.len a.widths a.settings c.acts-doing.result c.shown.result c.column.result
+    let d = a.command in
+    answer_is d.kind d.number d.text d.len a.widths a.settings c.acts-doing.result c.shown.result c.column.result
     c.scans-cost.result
     c.millis.result
     c.acts-doing.ensures

@@ -1,5 +1,4 @@
 -- `added` performs the command at the place and adds its cost.
-use mathlib.Core.Path.{◌∙◌}
 use native.Mathlib.Omega.{arith}
 use Rattle.measure.proofs.Columns.{part_all}
 use Rattle.reckon.proofs.Reckons.{added_is}
@@ -9,5 +8,5 @@ pub returns : goal.returns
 returns c =
     let a = c.args in
     let size = c.requires.1 in
-    let wide = c.measured-widths.ensures ∙ part_all a.body.now a.command.text a.command.len (omega (arith, size)) in
-    added_is a.body.now a.at a.command c.requires.0 c.measured-widths.result c.perform-performed.result c.behind.result c.plus.result c.cost.result wide c.perform-performed.ensures c.behind.ensures c.cost.ensures c.plus.ensures
+    let wide = part_all a.body.now a.command.text a.command.len (omega (arith, size)) in
+    added_is a.body.now a.at a.command c.requires.0 _ c.perform_at-performed.result c.behind.result c.plus.result c.cost.result wide c.perform_at-performed.ensures c.behind.ensures c.cost.ensures c.plus.ensures

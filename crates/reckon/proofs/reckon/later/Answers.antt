@@ -1,6 +1,6 @@
 -- `later` hands on what the first pass cost, or reads the loop again.
 use mathlib.Core.Path.{sym, ◌∙◌}
-use Rattle.reckon.proofs.Passes.{later_same, later_read}
+use Rattle.reckon.proofs.Passes.{later_same}
 use Rattle.reckon.proofs.reckon.later.Goals as goal
 
 pub returns-then-alike : goal.returns-then-alike

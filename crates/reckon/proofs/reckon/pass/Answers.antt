@@ -1,12 +1,12 @@
 use Prim.Native.Nat.{◌+◌}
-use mathlib.Core.Path.{◌≡◌, refl, sym, ap, ◌∙◌}
+use mathlib.Core.Path.{◌≡◌, sym, ap, ◌∙◌}
 use native.Mathlib.Omega.{arith}
 use Rattle.program.proofs.Laws.{starts_within}
 use Rattle.loops.specs.Token.{role_of, Tok, size_of, part_of, act_of}
 use Rattle.loops.proofs.Tokens.{get_two}
 use Rattle.reckon.specs.Reckon.{added_of, pass_of}
 use Rattle.reckon.specs.declared.reckon.Reckoned.{Reckoned}
-use Rattle.reckon.proofs.Reckons.{stands_good, pass_ends, pass_stops, pass_goes}
+use Rattle.reckon.proofs.Reckons.{stands_good, pass_stops, pass_goes}
 use Rattle.reckon.proofs.reckon.pass.Goals as goal
 
 pub returns-then-not-plain : goal.returns-then-not-plain

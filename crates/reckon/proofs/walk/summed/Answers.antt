@@ -2,7 +2,6 @@
 use mathlib.Core.Path.{sym, ap, ◌∙◌}
 use Rattle.reckon.specs.Reckon.{plain_of}
 use Rattle.reckon.proofs.Reckons.{pass_stops}
-use Rattle.reckon.proofs.Walks.{summed_none, summed_is}
 use Rattle.reckon.proofs.walk.summed.Goals as goal
 
 pub taken-requires : goal.taken-requires

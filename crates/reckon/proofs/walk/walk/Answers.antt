@@ -1,6 +1,5 @@
 use mathlib.Core.Path.{sym, ap, ◌∙◌}
 use native.Mathlib.Omega.{arith}
-use Rattle.program.specs.Command.{read_of}
 use Rattle.program.specs.declared.Command.{Command}
 use Rattle.refusal.specs.declared.Fault.{Fault}
 use Rattle.std.proofs.Common.{Result, Err}

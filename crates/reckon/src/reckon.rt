@@ -1,5 +1,5 @@
 // The forecast: rules S22 to S26 and S32, with each loop read twice at most (S27), and N17.
-ghost use Rattle.std.specs.Prelude.{◌≡◌, ◌≤◌, length, Ok};
+ghost use Rattle.std.specs.Prelude.{◌≡◌, Ok};
 ghost use Rattle.program.specs.Command.{read_of};
 ghost use Rattle.loops.specs.Token.{get};
 ghost use Rattle.loops.specs.Token.{role_of};
@@ -7,10 +7,11 @@ ghost use Rattle.reckon.specs.Forecast.{forecast_of};
 ghost use Rattle.reckon.specs.Reckon.{added_of, plain_of, pass_of, alike_of, later_of};
 
 use crate::Totals;
+use crate::body::Body;
 use crate::walk::walk;
 use judge::front;
 use loops::{Role, role_of};
-use perform::{Settings, perform_at};
+use perform::Settings;
 use program::{Command, Kind, read_command};
 use refusal::{Fault, Refusal};
 
@@ -24,11 +25,11 @@ pub struct Reckoned {
 
 // The command at the place, added. Two walks call this, and without the hint it is a call in both, which costs more with each command.
 #[inline(always)]
-pub(crate) fn added(body: &[u8], command: Command, at: Reckoned) -> Reckoned
-    requires { (read_of body.now at.place ≡ Ok command) × (length body.now ≤ 84) }
+pub(crate) fn added(body: &Body<'_>, command: Command, at: Reckoned) -> Reckoned
+    requires { read_of body.now at.place ≡ Ok command }
     ensures { result ≡ added_of (get body.now at.place) at }
 {
-    let performed = perform_at(body, command, at.settings);
+    let performed = body.perform(command, at.settings);
     Reckoned {
         place: command.next,
         settings: at.settings.behind(command.kind, command.number),
@@ -44,12 +45,11 @@ fn plain(kind: Kind) -> bool
 }
 
 // One pass of a loop: its plain commands from a place on, and the command behind them.
-fn pass(body: &[u8], from: Reckoned) -> Reckoned
-    requires { length body.now ≤ 84 }
+fn pass(body: &Body<'_>, from: Reckoned) -> Reckoned
     ensures { result ≡ pass_of body.now from }
 {
     let mut at = from;
-    while let Ok(command) = read_command(body, at.place) {
+    while let Ok(command) = read_command(body.bytes, at.place) {
         at = added(body, command, at);
         if !plain(command.kind) {
             return at;
@@ -66,8 +66,8 @@ fn alike(one: Settings, other: Settings) -> bool
 }
 
 // What each later pass of a loop costs: as much as the first where that left pace and scans as they were, else it is read again.
-pub(crate) fn later(body: &[u8], start: Reckoned, first: Reckoned) -> Totals
-    requires { (length body.now ≤ 84) × (first ≡ pass_of body.now start) }
+pub(crate) fn later(body: &Body<'_>, start: Reckoned, first: Reckoned) -> Totals
+    requires { first ≡ pass_of body.now start }
     ensures { result ≡ later_of body.now start }
 {
     let before = start.settings;
@@ -107,5 +107,5 @@ pub fn forecast(body: &[u8], pace: u8, scans: u8) -> Result<Foretold, Fault>
         dim: 16,
         bright: 0,
     };
-    walk(body, settings)
+    walk(&Body::new(body), settings)
 }

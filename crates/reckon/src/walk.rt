@@ -1,6 +1,6 @@
 // A body judged and reckoned in one walk (S22 to S24): a loop is reckoned as it is judged, and read once more where it
 // changes pace or scans (S27).
-ghost use Rattle.std.specs.Prelude.{◌≡◌, ◌≤◌, length};
+ghost use Rattle.std.specs.Prelude.{◌≡◌};
 ghost use Rattle.program.specs.Command.{read_of};
 ghost use Rattle.loops.specs.Token.{role_of, get};
 ghost use Rattle.judge.specs.Verdict.{begun, front_of};
@@ -9,6 +9,7 @@ ghost use Rattle.loops.specs.declared.Role.TheVariants.{Close};
 ghost use Rattle.reckon.specs.Forecast.{foretold_of, walked_of};
 ghost use Rattle.reckon.specs.Reckon.{closed_of, closes_of, taken_of, summed_of, Passed, Passing};
 
+use crate::body::Body;
 use crate::reckon::{Reckoned, added, later};
 use crate::{Foretold, Totals};
 use loops::{Flow, Open, Role, role_of, turned};
@@ -25,8 +26,8 @@ pub struct Sums {
 }
 
 // A loop closed behind its first pass: the totals before it, that pass, and what each later one costs.
-fn closed(body: &[u8], outer: Open, sums: Sums) -> Totals
-    requires { (length body.now ≤ 84) × Passed body.now (Within outer) sums.at sums.entry }
+fn closed(body: &Body<'_>, outer: Open, sums: Sums) -> Totals
+    requires { Passed body.now (Within outer) sums.at sums.entry }
     ensures { result ≡ closed_of body.now outer sums.at sums.entry sums.before }
 {
     let first = sums.at;
@@ -41,8 +42,8 @@ fn closed(body: &[u8], outer: Open, sums: Sums) -> Totals
 }
 
 // An `E`, which closes the open loop.
-fn closes(body: &[u8], flow: Flow, sums: Sums) -> Sums
-    requires { (length body.now ≤ 84) × Passed body.now flow sums.at sums.entry }
+fn closes(body: &Body<'_>, flow: Flow, sums: Sums) -> Sums
+    requires { Passed body.now flow sums.at sums.entry }
     ensures { result ≡ closes_of body.now flow sums.at sums.entry sums.before }
 {
     match flow {
@@ -58,8 +59,8 @@ fn closes(body: &[u8], flow: Flow, sums: Sums) -> Sums
 }
 
 // What a command of this kind leaves, the sums being reckoned behind it.
-fn taken(body: &[u8], kind: Kind, flow: Flow, sums: Sums) -> Sums
-    requires { (length body.now ≤ 84) × (role_of kind ≡ Close → Passed body.now flow sums.at sums.entry) }
+fn taken(body: &Body<'_>, kind: Kind, flow: Flow, sums: Sums) -> Sums
+    requires { role_of kind ≡ Close → Passed body.now flow sums.at sums.entry }
     ensures { result ≡ taken_of body.now (role_of kind) flow sums.at sums.entry sums.before }
 {
     match role_of(kind) {
@@ -77,8 +78,8 @@ fn taken(body: &[u8], kind: Kind, flow: Flow, sums: Sums) -> Sums
 }
 
 // One command reckoned, where judging stands so.
-fn summed(body: &[u8], read: Result<Command, Fault>, flow: Flow, sums: Sums) -> Sums
-    requires { (length body.now ≤ 84) × ((read ≡ read_of body.now sums.at.place) × Passing body.now flow sums) }
+fn summed(body: &Body<'_>, read: Result<Command, Fault>, flow: Flow, sums: Sums) -> Sums
+    requires { (read ≡ read_of body.now sums.at.place) × Passing body.now flow sums }
     ensures { result ≡ summed_of body.now (get body.now sums.at.place) flow sums }
 {
     let Ok(command) = read else {
@@ -114,7 +115,7 @@ fn told(flow: Flow, sums: Sums) -> Result<Foretold, Fault>
 
 // What is told of a body's commands, started at these settings. The loop steps by what was read, so there is no list to go over; the
 // one of judge has the same three lines and keeps other things.
-pub(crate) fn walk(body: &[u8], settings: Settings) -> Result<Foretold, Fault>
+pub(crate) fn walk(body: &Body<'_>, settings: Settings) -> Result<Foretold, Fault>
     requires { front_of body.now ≡ begun }
     ensures { result ≡ walked_of body.now settings }
 {
@@ -130,8 +131,8 @@ pub(crate) fn walk(body: &[u8], settings: Settings) -> Result<Foretold, Fault>
         entry: settings,
         before: Totals::none(),
     };
-    while place < body.len() {
-        let read = read_command(body, place);
+    while place < body.bytes.len() {
+        let read = read_command(body.bytes, place);
         let turn = turned(read, place, flow)?;
         sums = summed(body, read, flow, sums);
         place = turn.next;

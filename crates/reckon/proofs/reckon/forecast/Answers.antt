@@ -4,13 +4,13 @@ use Rattle.std.proofs.lemmas.Result.{err_from_is_err_and}
 use Rattle.basis.proofs.Tests.{tests}
 use Rattle.judge.specs.Verdict.{judge_of}
 use Rattle.judge.proofs.Turns.{front_judged}
-use Rattle.reckon.specs.Forecast.{forecast_of, settings_at}
+use Rattle.reckon.specs.Forecast.{forecast_of, settings_at, walked_of}
 use Rattle.reckon.proofs.Forecasts.{in_range, settings_sound_lem, tallies_price, exit_settled}
 use Rattle.reckon.proofs.Walks.{told_same}
 use borrow.Author.Rules.{rules}
 use Rattle.reckon.proofs.reckon.forecast.Goals as goal
 use Rattle.reckon.proofs.reckon.forecast.Goals.{then-pace-lt1-via-then-pace-lt1, then-pace-lt1-via-else-pace-lt1+then-pace-gt20, then-pace-lt1-via-else-pace-lt1+else-pace-gt20+then-scans-lt1, then-pace-lt1-via-else-pace-lt1+else-pace-gt20+else-scans-lt1+then-scans-gt6}
-use Rattle.std.proofs.Common.{Err}
+use Rattle.std.proofs.Common.{List, ℕ, Err}
 
 pub returns-then-pace-lt1 : goal.returns-then-pace-lt1
 unfolding forecast_of
@@ -36,5 +36,6 @@ returns c =
     let b = a.body.now in
     let set = settings_sound_lem b a.pace a.scans (search rules) (search rules) (search rules) (search rules) in
     c.walk.ensures
+    ∙ ap (λ (x : List ℕ). walked_of x (settings_at a.pace a.scans)) c.new.ensures
     ∙ told_same (judge_of b) _ _ _ _ (λ e. (tallies_price b e (settings_at a.pace a.scans) set, exit_settled b e (settings_at a.pace a.scans) set))
     ∙ sym (in_range b a.pace a.scans (search rules) (search rules) (search rules) (search rules) (judge_of b) refl)

@@ -6,4 +6,4 @@ use Rattle.reckon.proofs.reckon.later.Goals as goal
 pub returns-then-alike : goal.returns-then-alike
 returns-then-alike c =
     let a = c.args in
-    later_same a.body.now a.start a.first c.requires.1 (sym c.alike.ensures ∙ c.if-alike.true)
+    later_same a.body.now a.start a.first c.requires (sym c.alike.ensures ∙ c.if-alike.true)

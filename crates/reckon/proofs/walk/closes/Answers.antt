@@ -3,4 +3,4 @@ use mathlib.Core.Path.{◌∙◌}
 use Rattle.reckon.proofs.walk.closes.Goals as goal
 
 pub closed-requires : goal.closed-requires
-closed-requires c = (c.requires.0, λ l w. c.requires.1 l (c.in-Within.is ∙ w))
+closed-requires c = λ l w. c.requires l (c.in-Within.is ∙ w)

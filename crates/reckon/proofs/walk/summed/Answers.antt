@@ -10,5 +10,5 @@ taken-requires c =
     let b = a.body.now in
     let s = a.sums in
     let d = c.in-Ok.command in
-    let e = sym c.requires.1.0 ∙ c.in-Ok.is in
-    (c.requires.0, λ r l w. (c.added.ensures ∙ sym (pass_stops b s.at d e (ap plain_of r)) ∙ (c.requires.1.1 l w).0, (c.requires.1.1 l w).1))
+    let e = sym c.requires.0 ∙ c.in-Ok.is in
+    λ r l w. (c.added.ensures ∙ sym (pass_stops b s.at d e (ap plain_of r)) ∙ (c.requires.1 l w).0, (c.requires.1 l w).1)

@@ -3,4 +3,4 @@ use mathlib.Core.Path.{sym, ◌∙◌}
 use Rattle.reckon.proofs.walk.taken.Goals as goal
 
 pub closes-requires : goal.closes-requires
-closes-requires c = (c.requires.0, c.requires.1 (sym c.role.ensures ∙ c.in-Close.is))
+closes-requires c = c.requires (sym c.role.ensures ∙ c.in-Close.is)

@@ -1,5 +1,9 @@
+use Prim.Native.Nat.{ℕ, ◌<◌, ◌≤◌}
+use mathlib.Core.List.{List}
 use mathlib.Core.Path.{sym, ap, ◌∙◌}
+use lib.ListN.{length}
 use native.Mathlib.Omega.{arith}
+use Rattle.program.specs.Command.{read_of}
 use Rattle.program.specs.declared.Command.{Command}
 use Rattle.refusal.specs.declared.Fault.{Fault}
 use Rattle.std.proofs.Common.{Result, Err}
@@ -20,30 +24,33 @@ pub returns-in_err-turn : goal.returns-in_err-turn
 returns-in_err-turn c =
     let b = c.args.body.now in
     let l = c.loop-place in
+    let within : l.place < length b = omega (arith, ap length c.body.view_is, c.loop-place-test.true) in
     let σ = c.args.settings in
-    let e = sym (turned_is b l.place l.flow) ∙ ap (λ (r : Result Command Fault). turned_of r l.place l.flow) (sym c.read_command-read.ensures) ∙ sym c.in_err-turn.ensures in
+    let e = sym (turned_is b l.place l.flow) ∙ ap (λ (x : List ℕ). turned_of (read_of x l.place) l.place l.flow) (sym c.body.view_is) ∙ ap (λ (r : Result Command Fault). turned_of r l.place l.flow) (sym c.read_command-read.ensures) ∙ sym c.in_err-turn.ensures in
     let p = err_from_is_err_and c.from_residual.result c.from_residual.ensures.1 in
     p.1 ∙ ap Err p.2
-    ∙ ap (λ (v : Verdict). by_verdict v (prices_of (tree_in b).block σ) (exit_of (tree_in b).block σ)) (sym (on_stop b l.place _ l.flow c.loop-place-test.true e) ∙ l.invariant.1.0 ∙ sym (begun_front b c.requires).0)
+    ∙ ap (λ (v : Verdict). by_verdict v (prices_of (tree_in b).block σ) (exit_of (tree_in b).block σ)) (sym (on_stop b l.place _ l.flow within e) ∙ l.invariant.1.0 ∙ sym (begun_front b c.requires).0)
 
 pub loop-place-smaller : goal.loop-place-smaller
 loop-place-smaller c =
     let b = c.args.body.now in
     let l = c.loop-place in
-    let e = sym (turned_is b l.place l.flow) ∙ ap (λ (r : Result Command Fault). turned_of r l.place l.flow) (sym c.read_command-read.ensures) ∙ sym c.in_ok-turn.ensures in
+    let e = sym (turned_is b l.place l.flow) ∙ ap (λ (x : List ℕ). turned_of (read_of x l.place) l.place l.flow) (sym c.body.view_is) ∙ ap (λ (r : Result Command Fault). turned_of r l.place l.flow) (sym c.read_command-read.ensures) ∙ sym c.in_ok-turn.ensures in
     let g = place_grows b l.place c.in_ok-turn.turn.next l.flow c.in_ok-turn.turn.flow e in
-    let h = c.loop-place-test.true in
+    let within : l.place < length b = omega (arith, ap length c.body.view_is, c.loop-place-test.true) in
     omega arith
 
 pub loop-place-preserved : goal.loop-place-preserved
 loop-place-preserved c =
     let b = c.args.body.now in
     let l = c.loop-place in
-    let e = sym (turned_is b l.place l.flow) ∙ ap (λ (r : Result Command Fault). turned_of r l.place l.flow) (sym c.read_command-read.ensures) ∙ sym c.in_ok-turn.ensures in
-    stands_next b _ _ l.place c.in_ok-turn.turn.next l.flow c.in_ok-turn.turn.flow l.sums c.summed-sums.result c.loop-place-test.true e c.summed-sums.ensures l.invariant
+    let within : l.place < length b = omega (arith, ap length c.body.view_is, c.loop-place-test.true) in
+    let e = sym (turned_is b l.place l.flow) ∙ ap (λ (x : List ℕ). turned_of (read_of x l.place) l.place l.flow) (sym c.body.view_is) ∙ ap (λ (r : Result Command Fault). turned_of r l.place l.flow) (sym c.read_command-read.ensures) ∙ sym c.in_ok-turn.ensures in
+    stands_next b _ _ l.place c.in_ok-turn.turn.next l.flow c.in_ok-turn.turn.flow l.sums c.summed-sums.result within e c.summed-sums.ensures l.invariant
 
 pub returns : goal.returns
 returns c =
     let b = c.args.body.now in
     let l = c.loop-place in
-    c.told.ensures ∙ stands_end b _ _ l.place l.flow l.sums c.loop-place-test.false (begun_front b c.requires).0 l.invariant
+    let past : length b ≤ l.place = omega (arith, ap length c.body.view_is, c.loop-place-test.false) in
+    c.told.ensures ∙ stands_end b _ _ l.place l.flow l.sums past (begun_front b c.requires).0 l.invariant

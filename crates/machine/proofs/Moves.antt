@@ -28,7 +28,7 @@ use Rattle.loops.specs.declared.Role.TheVariants.{Plain, Repeat, Close, Forever,
 use Rattle.loops.proofs.Moves.{next_is}
 use Rattle.course.specs.Steps.{Frame, frame, ready, at, settle, closed, returned, goes_of, went_at, said_at}
 use Rattle.machine.specs.Step.{outside, frames_of, loop_of, run_of, say_of}
-use Rattle.machine.specs.Moves.{settled_of, closed_of, returned_of, moved_of, ran_of}
+use Rattle.machine.specs.Moves.{settled_of, back_of, moved_of, ran_of}
 use Rattle.machine.specs.declared.Run.{Run}
 use Rattle.machine.specs.declared.Stepped.{Stepped}
 use Rattle.machine.proofs.Commands.{says_is}
@@ -53,15 +53,15 @@ one_left place k = when_false (eqb (suc k) 0) _ _ (ne_eqb (suc k) 0 (λ e. omega
 -- `E`, by the count left
 close_by : (r : Run) (p place left : ℕ) (σ : Settings)
     → run_of r (closed r.len p (frames_of (record { place = place; left = left })) σ)
-    ≡ when (leb left 1) (settled_of r (p + 2) outside σ) (settled_of r place (record { place = place; left = left - 1 }) σ)
+    ≡ when (eqb (left - 1) 0) (settled_of r (p + 2) outside σ) (settled_of r place (record { place = place; left = left - 1 }) σ)
 close_by r p place zero σ = settle_is r (p + 2) [] σ
 close_by r p place (suc zero) σ = settle_is r (p + 2) [] σ
 close_by r p place (suc (suc k)) σ =
     let less : suc (suc k) - 1 ≡ suc k = omega arith in
     ap (λ (fs : List Frame). run_of r (closed r.len p fs σ)) (one_left place (suc k))
     ∙ settle_is r place (frame place (suc k) ∷ []) σ
-    ∙ ap (λ (n : ℕ). settled_of r place (record { place = place; left = n }) σ) (sym less)
-    ∙ sym (when_false (leb (suc (suc k)) 1) _ _ (lt-leb (suc (suc k)) 1 (omega arith)))
+    ∙ sym (when_false (eqb (suc k) 0) _ _ (ne_eqb (suc k) 0 (λ e. omega arith)))
+    ∙ ap (λ (n : ℕ). when (eqb n 0) (settled_of r (p + 2) outside σ) (settled_of r place (record { place = place; left = n }) σ)) (sym less)
 
 -- `F`, by the count left
 return_by : (r : Run) (p place left : ℕ) (σ : Settings)
@@ -83,8 +83,8 @@ moved_by Plain b p c r e =
 moved_by Repeat b p c r e =
     settle_is r (p + (c.next - p)) (frame (p + (c.next - p)) c.number ∷ frames_of r.inner) r.settings
     ∙ ap (λ (n : ℕ). settled_of r n (record { place = n; left = c.number }) r.settings) e
-moved_by Close b p c r e = close_by r p r.inner.place r.inner.left r.settings ∙ ap (closed_of r) e
-moved_by Forever b p c r e = return_by r p r.inner.place r.inner.left r.settings ∙ ap (returned_of r) e
+moved_by Close b p c r e = close_by r p r.inner.place r.inner.left r.settings ∙ ap (back_of r (r.inner.left - 1)) e
+moved_by Forever b p c r e = return_by r p r.inner.place r.inner.left r.settings ∙ ap (back_of r r.inner.left) e
 moved_by Again b p c r e = settle_is r 0 (frames_of r.inner) r.settings
 
 -- a Busy run with a good command at its place

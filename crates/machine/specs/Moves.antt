@@ -20,20 +20,18 @@ settled_of r place inner σ =
     when (leb r.len place) (ready_of σ)
     (record { len = r.len; place = place; inner = inner; settings = σ })
 
-abbrev pub closed_of : Run → ℕ → Run
-closed_of r next =
-    when (leb r.inner.left 1) (settled_of r next outside r.settings)
-    (settled_of r r.inner.place (record { place = r.inner.place; left = r.inner.left - 1 }) r.settings)
+-- back behind the `L` with this count left, or on where none is left
+abbrev pub back_of : Run → ℕ → ℕ → Run
+back_of r left next =
+    when (eqb left 0) (settled_of r next outside r.settings)
+    (settled_of r r.inner.place (record { place = r.inner.place; left = left }) r.settings)
 
-abbrev pub returned_of : Run → ℕ → Run
-returned_of r next =
-    when (eqb r.inner.left 0) (settled_of r next outside r.settings) (settled_of r r.inner.place r.inner r.settings)
-
+-- an `E` leaves one less, and an `F` leaves the count
 abbrev pub moved_of : Role → Kind → ℕ → Run → ℕ → Run
 moved_of Plain k n r next = settled_of r next (loop_of (frames_of r.inner)) (behind_of k n r.settings)
 moved_of Repeat k n r next = settled_of r next (record { place = next; left = n }) r.settings
-moved_of Close k n r next = closed_of r next
-moved_of Forever k n r next = returned_of r next
+moved_of Close k n r next = back_of r (r.inner.left - 1) next
+moved_of Forever k n r next = back_of r r.inner.left next
 moved_of Again k n r next = settled_of r 0 (loop_of (frames_of r.inner)) r.settings
 
 -- a Busy run of a body gone on by one command

@@ -5,7 +5,7 @@ ghost use Rattle.loops.specs.Token.{role_of};
 ghost use Rattle.judge.specs.Standing.{stand_of};
 ghost use Rattle.machine.specs.Sound.{held_of};
 ghost use Rattle.machine.specs.Step.{frames_of, loop_of, unsound_of, step_of};
-ghost use Rattle.machine.specs.Moves.{settled_of, closed_of, returned_of, moved_of, ran_of};
+ghost use Rattle.machine.specs.Moves.{settled_of, back_of, moved_of, ran_of};
 
 use crate::sound::{filled, held, rests};
 use crate::{Loop, Run, Stepped};
@@ -41,28 +41,14 @@ impl Run {
         }
     }
 
-    // `E`: back behind the `L` with one less while more than 1 is left, else on.
-    fn closed(self, next: usize) -> Run
-        ensures { result ≡ closed_of self next }
+    // Back behind the `L` with this count left, or on where none is left.
+    fn back(self, left: u8, next: usize) -> Run
+        ensures { result ≡ back_of self left next }
     {
-        if self.inner.left <= 1 {
+        if left == 0 {
             return self.settled(next, Loop::none(), self.settings);
         }
-        let less = Loop {
-            left: self.inner.left - 1,
-            ..self.inner
-        };
-        self.settled(less.place, less, self.settings)
-    }
-
-    // `F`: back behind its `L`, and the count stays.
-    fn returned(self, next: usize) -> Run
-        ensures { result ≡ returned_of self next }
-    {
-        if self.inner.left == 0 {
-            return self.settled(next, Loop::none(), self.settings);
-        }
-        self.settled(self.inner.place, self.inner, self.settings)
+        self.settled(self.inner.place, Loop { left, ..self.inner }, self.settings)
     }
 
     // The run behind a command.
@@ -86,8 +72,8 @@ impl Run {
                 };
                 self.settled(next, opened, self.settings)
             }
-            Role::Close => self.closed(next),
-            Role::Forever => self.returned(next),
+            Role::Close => self.back(self.inner.left.saturating_sub(1), next),
+            Role::Forever => self.back(self.inner.left, next),
             Role::Again => self.settled(0, kept(self.inner), self.settings),
         }
     }

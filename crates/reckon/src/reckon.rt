@@ -70,15 +70,14 @@ pub(crate) fn later(body: &Body<'_>, start: Reckoned, first: Reckoned) -> Totals
     requires { first ≡ pass_of body.now start }
     ensures { result ≡ later_of body.now start }
 {
-    let before = start.settings;
-    let behind = first.settings;
-    if alike(before, behind) {
+    if alike(start.settings, first.settings) {
         return first.totals;
     }
-    let mut second = start;
-    second.settings = behind;
-    let again = pass(body, second);
-    again.totals
+    let second = Reckoned {
+        settings: first.settings,
+        ..start
+    };
+    pass(body, second).totals
 }
 
 // What is told of a program beforehand: the totals until it is Ready, and the pace and the scans that it leaves; or that it never is.

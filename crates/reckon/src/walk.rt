@@ -30,14 +30,13 @@ fn closed(body: &Body<'_>, outer: Open, sums: Sums) -> Totals
     requires { Passed body.now (Within outer) sums.at sums.entry }
     ensures { result ≡ closed_of body.now outer sums.at sums.entry sums.before }
 {
-    let first = sums.at;
     let start = Reckoned {
         place: outer.behind,
         settings: sums.entry,
         totals: Totals::none(),
     };
-    let again = later(body, start, first);
-    let read = sums.before.plus(first.totals);
+    let again = later(body, start, sums.at);
+    let read = sums.before.plus(sums.at.totals);
     read.plus(again.times((outer.number - 1) as u8))
 }
 
@@ -96,14 +95,11 @@ fn summed(body: &Body<'_>, read: Result<Command, Fault>, flow: Flow, sums: Sums)
 fn told(flow: Flow, sums: Sums) -> Result<Foretold, Fault>
     ensures { result ≡ foretold_of flow sums.at.totals sums.at.settings }
 {
-    let at = sums.at;
-    let totals = at.totals;
-    let left = at.settings;
     match flow {
         Flow::Free => Ok(Foretold::Ends {
-            totals,
-            pace: left.pace,
-            scans: left.scans,
+            totals: sums.at.totals,
+            pace: sums.at.settings.pace,
+            scans: sums.at.settings.scans,
         }),
         Flow::Ended => Ok(Foretold::Endless),
         Flow::Within(open) => Err(Fault {
@@ -121,16 +117,16 @@ pub(crate) fn walk(body: &Body<'_>, settings: Settings) -> Result<Foretold, Faul
 {
     let mut place: usize = 0;
     let mut flow = Flow::Free;
-    let at = Reckoned {
-        place: 0,
-        settings,
-        totals: Totals::none(),
-    };
     let mut sums = Sums {
-        at,
+        at: Reckoned {
+            place: 0,
+            settings,
+            totals: Totals::none(),
+        },
         entry: settings,
         before: Totals::none(),
     };
+    // Each round steps by what was read, so there is no list to go over.
     while place < body.bytes.len() {
         let read = read_command(body.bytes, place);
         let turn = turned(read, place, flow)?;

@@ -22,12 +22,10 @@ impl Totals {
     pub fn cost(performed: Performed) -> Totals
         ensures { result ≡ cost_of performed }
     {
-        let scans = performed.scans;
-        let millis = performed.millis;
         Totals {
             steps: Steps(1),
-            scans,
-            millis,
+            scans: performed.scans,
+            millis: performed.millis,
         }
     }
 

@@ -14,6 +14,7 @@ use perform::{Performed, Settings};
 use refusal::Refusal;
 
 // The open loop: the place behind its `L` and the count left, both 0 outside loops.
+// No `Option`: a record is bytes, and `sound_of` and `image_again` (image) speak of records with any of these bytes.
 #[derive(Clone, Copy)]
 pub struct Loop {
     pub place: usize,
@@ -21,6 +22,7 @@ pub struct Loop {
 }
 
 // The running body's length and the place in it, the open loop, and the settings. A length of 0 is Ready.
+// No `Option`: a record is bytes, and `sound_of` and `image_again` (image) speak of records with any of these bytes.
 #[derive(Clone, Copy)]
 pub struct Run {
     pub len: usize,
@@ -30,6 +32,7 @@ pub struct Run {
 }
 
 // A step's answer with the run after it: the command performed, none where the run is Ready, or the refusal.
+// `sign::Stepped` is a type of its own: one generic type for both would be called by its parameters at each use.
 #[derive(Clone, Copy)]
 pub struct Stepped {
     pub run: Run,

@@ -9,6 +9,7 @@ use program::{Command, Kind};
 use units::{Amount, Millis, Scans, Shifts};
 
 // What one step answers: kind, number as written, text place and length, start column, scans, milliseconds.
+// `text` and `len` are no `Option`: `values_of` (machine) tells them as numbers, with 0 for what a command lacks.
 #[derive(Clone, Copy)]
 pub struct Performed {
     pub kind: Kind,

@@ -58,7 +58,7 @@ fn pass(body: &Body<'_>, from: Reckoned) -> Reckoned
     at
 }
 
-// Whether two settings agree in pace and scans per shift, which is all that a price goes by.
+// Whether two settings agree in pace and scans per shift, which is all that a price goes by: no `==`, as the other three may differ.
 fn alike(one: Settings, other: Settings) -> bool
     ensures { result ≡ alike_of one other }
 {
@@ -88,7 +88,7 @@ pub enum Foretold {
 }
 
 // How long a body will run when it is started at this pace and this many scans a shift, and what it leaves of both; or why it is refused,
-// and where.
+// and where. The two are numbers, and no `Settings`, because the rules (S22) and `yd_forecast` give two numbers.
 pub fn forecast(body: &[u8], pace: u8, scans: u8) -> Result<Foretold, Fault>
     ensures { result ≡ forecast_of body.now pace scans }
 {

@@ -24,6 +24,7 @@ pub struct Scans(pub u64);
 #[derive(Clone, Copy, PartialEq)]
 pub struct Millis(pub u64);
 
+// Each unit has its own `impl`, as the gate refuses those that a macro of this repository writes.
 impl Amount for Steps {
     ghost count = { λ steps. steps.0 };
 

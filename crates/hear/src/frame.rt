@@ -11,11 +11,10 @@ use completed::Completed;
 pub fn framed(completed: Completed, slots: Slots, room: &[u8; 84], len: usize) -> bool
     ensures { result ≡ framed_by completed (collection_of slots room.now) len }
 {
-    if !completed.sound() {
-        return false;
-    }
-    if len == 0 {
-        return slots.sound(completed, room);
-    }
-    slots.none()
+    completed.sound()
+        && if len == 0 {
+            slots.sound(completed, room)
+        } else {
+            slots.none()
+        }
 }

@@ -74,15 +74,11 @@ fn placed(
 fn taking(slots: Slots, room: &mut [u8; 84], id: u8, total: u8) -> Slots
     ensures { collection_of result room.new ≡ taking_of (collection_of slots room.old) id total }
 {
-    if slots.total == 0 {
-        *room = [0; 84];
-        return begun(id, total);
+    if slots.total != 0 && slots.id == id {
+        return slots;
     }
-    if slots.id != id {
-        *room = [0; 84];
-        return begun(id, total);
-    }
-    slots
+    *room = [0; 84];
+    begun(id, total)
 }
 
 // Whether a position's slot holds these data.
@@ -107,18 +103,14 @@ fn goes_into(
     requires { (slots_of slots.total 0 slots.lens room.old ≡ true) × Right total position (length part.now) }
     ensures { left_of result room.new ≡ goes_by (stay_of completed (collection_of slots room.old)) (count_of completed) (collection_of slots room.old) total position part.now }
 {
-    let lens = slots.lens;
     if slots.total != total {
         return stays(completed, slots, Err(Refusal::OtherPacket));
     }
-    let len = lens[position];
-    if len == 0 {
-        return placed(completed, slots, room, position, part);
+    match slots.lens[position] {
+        0 => placed(completed, slots, room, position, part),
+        len if holds(room, position, len, part) => stays(completed, slots, Ok(Outcome::Repeat)),
+        _ => stays(completed, slots, Err(Refusal::OtherPacket)),
     }
-    if holds(room, position, len, part) {
-        return stays(completed, slots, Ok(Outcome::Repeat));
-    }
-    stays(completed, slots, Err(Refusal::OtherPacket))
 }
 
 // A normal packet of a right length and place, beside completed IDs, and sound slots where no body is running.

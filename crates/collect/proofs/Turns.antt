@@ -47,6 +47,16 @@ slots_at total lens room i h =
     rule_of total i len and zeros_of (take (14 - len) (drop (14 * i + len) room)) and slots_of total (i + 1) (drop (i + 1) lens) d)
     rest
 
+-- the room behind a slot's data, as the code lends it
+pub slot_cut : (room : List ℕ) (i len : ℕ) → len ≤ 14
+    → zeros_of (take (14 - len) (drop (14 * i + len) room)) ≡ zeros_of (drop len (take (14 * i + 14 - 14 * i) (drop (14 * i) room)))
+slot_cut room i len h =
+    let e : 14 * i + 14 - 14 * i ≡ 14 = omega arith in
+    sym
+    (ap (λ (n : ℕ). zeros_of (drop len (take n (drop (14 * i) room)))) e
+    ∙ ap zeros_of (drop_take len 14 (drop (14 * i) room) h)
+    ∙ ap (λ (x : List ℕ). zeros_of (take (14 - len) x)) (drop-drop len (14 * i) room))
+
 module _ (total : ℕ) (lens room : List ℕ) (i : ℕ) (within : i < length lens) where
   -- the slots from here on, by the rule of the first
   by_rule : (t : Bool) → rule_of total i (get_or lens i 0) ≡ t
@@ -66,19 +76,14 @@ module _ (total : ℕ) (lens room : List ℕ) (i : ℕ) (within : i < length len
   pub slot_wrong : rule_of total i (get_or lens i 0) ≡ false → slots_of total i (drop i lens) (drop (14 * i) room) ≡ false
   slot_wrong e = by_rule false e
 
-  module _ (right : rule_of total i (get_or lens i 0) ≡ true) where
-    right_slot : slots_of total i (drop i lens) (drop (14 * i) room)
-        ≡ zeros_of (take (14 - get_or lens i 0) (drop (14 * i + get_or lens i 0) room))
-        and slots_of total (i + 1) (drop (i + 1) lens) (drop (14 * (i + 1)) room)
-    right_slot = by_rule true right
-
-    pub slot_unclean : zeros_of (take (14 - get_or lens i 0) (drop (14 * i + get_or lens i 0) room)) ≡ false
-        → slots_of total i (drop i lens) (drop (14 * i) room) ≡ false
-    slot_unclean e = right_slot ∙ ap (λ (t : Bool). t and slots_of total (i + 1) (drop (i + 1) lens) (drop (14 * (i + 1)) room)) e
-
-    pub slot_next : zeros_of (take (14 - get_or lens i 0) (drop (14 * i + get_or lens i 0) room)) ≡ true
-        → slots_of total i (drop i lens) (drop (14 * i) room) ≡ slots_of total (i + 1) (drop (i + 1) lens) (drop (14 * (i + 1)) room)
-    slot_next e = right_slot ∙ ap (λ (t : Bool). t and slots_of total (i + 1) (drop (i + 1) lens) (drop (14 * (i + 1)) room)) e
+  -- a slot's data as the code cuts them off are right: its rule, then zeros behind them
+  pub slot_clean : (t : Bool) → rule_of total i (get_or lens i 0) ≡ true
+      → zeros_of (drop (get_or lens i 0) (take (14 * i + 14 - 14 * i) (drop (14 * i) room))) ≡ t
+      → slots_of total i (drop i lens) (drop (14 * i) room) ≡ t and slots_of total (i + 1) (drop (i + 1) lens) (drop (14 * (i + 1)) room)
+  slot_clean t right e =
+      by_rule true right
+      ∙ ap (λ (u : Bool). u and slots_of total (i + 1) (drop (i + 1) lens) (drop (14 * (i + 1)) room))
+      (slot_cut room i (get_or lens i 0) (rule_most total i (get_or lens i 0) right) ∙ e)
 
 pub slots_past : (total : ℕ) (lens room : List ℕ) (i : ℕ) → length lens ≤ i → slots_of total i (drop i lens) (drop (14 * i) room) ≡ true
 unfolding slots_of
@@ -99,16 +104,6 @@ one_most len = go (eqb len 0)
     go : (t : Bool) → when t 0 1 ≤ 1
     go true = omega arith
     go false = omega arith
-
--- the room behind a slot's data, as the code lends it
-pub slot_cut : (room : List ℕ) (i len : ℕ) → len ≤ 14
-    → zeros_of (take (14 - len) (drop (14 * i + len) room)) ≡ zeros_of (drop len (take (14 * i + 14 - 14 * i) (drop (14 * i) room)))
-slot_cut room i len h =
-    let e : 14 * i + 14 - 14 * i ≡ 14 = omega arith in
-    sym
-    (ap (λ (n : ℕ). zeros_of (drop len (take n (drop (14 * i) room)))) e
-    ∙ ap zeros_of (drop_take len 14 (drop (14 * i) room) h)
-    ∙ ap (λ (x : List ℕ). zeros_of (take (14 - len) x)) (drop-drop len (14 * i) room))
 
 zeros_append : (a b : List ℕ) → zeros_of (a ++ b) ≡ zeros_of a and zeros_of b
 zeros_append [] b = refl

@@ -40,19 +40,17 @@ impl Completed {
     pub fn has(self, id: u8) -> bool
         ensures { result ≡ has_of self id }
     {
-        let ids = self.ids;
         let known = (self.count as usize).min(4);
-        among(&ids[..known], id)
+        among(&self.ids[..known], id)
     }
 
     // The same after this ID is completed: it is the newest, and the fifth is forgotten.
     pub fn with(self, id: u8) -> Completed
         ensures { result ≡ added_of self id }
     {
-        let ids = self.ids;
         Completed {
             count: more(self.count),
-            ids: [id, ids[0], ids[1], ids[2]],
+            ids: [id, self.ids[0], self.ids[1], self.ids[2]],
         }
     }
 }

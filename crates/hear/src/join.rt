@@ -28,9 +28,8 @@ fn released(completed: Completed, slots: Slots, room: &[u8; 84]) -> Heard
     requires { Whole (collection_of slots room.now) }
     ensures { left_of result room.now ≡ whole_of completed (collection_of slots room.now) }
 {
-    let lens = slots.lens;
     let at = slots.total as usize - 1;
-    let len = 14 * at + lens[at] as usize;
+    let len = 14 * at + slots.lens[at] as usize;
     let verdict = judge(&room[..len]);
     Heard {
         outcome: Ok(Outcome::Released { verdict, len }),
@@ -63,8 +62,7 @@ fn placed(
     let mut next = slots;
     next.lens[position] = part.len() as u8;
     fill(room, position, part);
-    let lens = next.lens;
-    if held(lens) < next.total as usize {
+    if held(next.lens) < next.total as usize {
         return stays(completed, next, Ok(Outcome::Stored));
     }
     released(completed, next, room)

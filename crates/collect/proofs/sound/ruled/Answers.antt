@@ -1,8 +1,7 @@
 use borrow.Author.Rules.{rules}
-use Rattle.collect.proofs.Turns.{rule_most, slot_cut, slot_wrong, slot_unclean, slot_next, slots_past}
-use lib.ListN.{length, get_or}
+use Rattle.collect.proofs.Turns.{slot_wrong, slot_clean, slots_past}
+use lib.ListN.{length}
 use native.Mathlib.Omega.{arith}
-use Prim.Native.Nat.{◌≤◌}
 use mathlib.Core.Path.{◌≡◌, sym, ◌∙◌}
 use Rattle.collect.proofs.sound.ruled.Goals as goal
 use Rattle.collect.proofs.sound.ruled.Goals.{then-rule, else-rule}
@@ -12,13 +11,9 @@ returns-then-not-unused c =
     let a = c.args in
     let l = c.loop-i in
     let s : length a.lens ≡ 6 = search rules in
-    let len = get_or a.lens l.i 0 in
     elim c.if-rule.branch [
       | then-rule w ↦
-          let right = sym c.rule.ensures ∙ w.if-rule.true in
-          let most : len ≤ 14 = rule_most a.total l.i len right in
-          let found = slot_cut a.room.now l.i len most ∙ sym w.unused.ensures ∙ sym w.value-is ∙ c.if-not-unused.true in
-          sym (slot_unclean a.total a.lens a.room.now l.i (omega arith) right found) ∙ l.invariant
+          sym (slot_clean a.total a.lens a.room.now l.i (omega arith) _ (sym c.rule.ensures ∙ w.if-rule.true) (sym w.unused.ensures ∙ sym w.value-is ∙ c.if-not-unused.true)) ∙ l.invariant
       | else-rule w ↦ sym (slot_wrong a.total a.lens a.room.now l.i (omega arith) (sym c.rule.ensures ∙ w.if-rule.false)) ∙ l.invariant
     ]
 
@@ -27,13 +22,9 @@ loop-i-preserved c =
     let a = c.args in
     let l = c.loop-i in
     let s : length a.lens ≡ 6 = search rules in
-    let len = get_or a.lens l.i 0 in
     elim c.if-rule.branch [
       | then-rule w ↦
-          let right = sym c.rule.ensures ∙ w.if-rule.true in
-          let most : len ≤ 14 = rule_most a.total l.i len right in
-          let found = slot_cut a.room.now l.i len most ∙ sym w.unused.ensures ∙ sym w.value-is ∙ c.if-not-unused.false in
-          sym (slot_next a.total a.lens a.room.now l.i (omega arith) right found) ∙ l.invariant
+          sym (slot_clean a.total a.lens a.room.now l.i (omega arith) _ (sym c.rule.ensures ∙ w.if-rule.true) (sym w.unused.ensures ∙ sym w.value-is ∙ c.if-not-unused.false)) ∙ l.invariant
       | else-rule w ↦ cc
     ]
 

@@ -12,7 +12,8 @@ pub use joining::{begun, same};
 pub use sound::held;
 
 // The ID being collected with the lengths of its packets: `total` 0 is none, a length of 0 a position that isn't held. The data of
-// position p stand in the room from byte 14 p on.
+// position p stand in the room from byte 14 p on. Both are numbers and no `Option`s, as a record is bytes: every image is the image of its
+// record (`image_again`), and soundness speaks of records with any of these bytes (`sound_of`).
 #[derive(Clone, Copy)]
 pub struct Slots {
     pub id: u8,

@@ -9,7 +9,8 @@ mod sound;
 
 pub use known::none;
 
-// How many there are, and the IDs, the newest first. Room for IDs that aren't there holds zeros; 0 is an ID too.
+// How many there are, and the IDs, the newest first. Room for IDs that aren't there holds zeros; 0 is an ID too. The IDs stand beside their
+// number, as a record is bytes: every image is the image of its record (`image_again`), and soundness speaks of any of these bytes (`sound_of`).
 #[derive(Clone, Copy)]
 pub struct Completed {
     pub count: u8,

@@ -1,4 +1,5 @@
-// A record to its image, and any image to its record: bytes at fixed places, as include/yurodekapi.h names them.
+// A record to its image, and any image to its record: bytes at fixed places, as include/yurodekapi.h names them. They are functions and no
+// `From`, since neither `Sign` nor the array is of this crate.
 ghost use Rattle.std.specs.Prelude.{◌≡◌};
 ghost use Rattle.image.specs.Layout.{image_of, record_of};
 

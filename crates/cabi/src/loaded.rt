@@ -5,12 +5,9 @@ ghost use Rattle.image.specs.Layout.{image_size, image_of, record_of};
 ghost use Rattle.packet.specs.Mid.{is_forbidden};
 ghost use Rattle.sign.specs.Sound.{sound_of};
 
-use image::{image_of, record_of};
+use image::{SIZE, image_of, record_of};
 use packet::forbidden;
 use sign::Sign;
-
-// The size of an image.
-pub(crate) const SIZE: usize = 106;
 
 // The record in a lent image.
 pub(crate) fn load(image: &[u8]) -> Sign

@@ -9,7 +9,8 @@ ghost use Rattle.sign.specs.Tell.{says_of, running_body, says_rows, copy_rows};
 ghost use Rattle.words.specs.Words.{result_of};
 ghost use Rattle.cabi.specs.Calls.{Tells, image_row, power_image, reset_no, reset_image, receive_no, receive_image, receive_answer, step_no, step_image, step_answer};
 
-use crate::loaded::{SIZE, load, short, short_for, store};
+use crate::loaded::{load, short, short_for, store};
+use image::SIZE;
 use repeater::shows;
 use sign::Sign;
 use words::{tell_outcome, tell_received, tell_stepped, tell_written};

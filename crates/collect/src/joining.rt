@@ -2,7 +2,7 @@
 ghost use Rattle.std.specs.Prelude.{◌≡◌};
 ghost use Rattle.collect.specs.Slots.{same_of, begun_of, slots_in};
 
-use crate::Slots;
+use crate::{POSITIONS, Slots};
 
 // Whether two lists of bytes are equal, in length and byte by byte.
 pub fn same(one: &[u8], other: &[u8]) -> bool
@@ -18,6 +18,6 @@ pub fn begun(id: u8, total: u8) -> Slots
     Slots {
         id,
         total,
-        lens: [0; 6],
+        lens: [0; POSITIONS],
     }
 }

@@ -11,6 +11,15 @@ mod sound;
 pub use joining::{begun, same};
 pub use sound::held;
 
+// The positions that a packet may have.
+pub const POSITIONS: usize = 6;
+
+// The most data that a packet has, which is what a slot has room for.
+pub const PART: usize = 14;
+
+// A length for each position.
+pub type Lengths = [u8; POSITIONS];
+
 // The ID being collected with the lengths of its packets: `total` 0 is none, a length of 0 a position that isn't held. The data of
 // position p stand in the room from byte 14 p on. Both are numbers and no `Option`s, as a record is bytes: every image is the image of its
 // record (`image_again`), and soundness speaks of records with any of these bytes (`sound_of`).
@@ -18,5 +27,5 @@ pub use sound::held;
 pub struct Slots {
     pub id: u8,
     pub total: u8,
-    pub lens: [u8; 6],
+    pub lens: Lengths,
 }

@@ -4,9 +4,12 @@ ghost use Rattle.room.specs.Room.{zeros_of};
 ghost use Rattle.collect.specs.Slots.{rule_of, one_of, held_of, slots_of, collection_of};
 ghost use Rattle.collect.specs.Sound.{nothing_of, sound_of};
 
-use crate::Slots;
+use crate::{Lengths, PART, POSITIONS, Slots};
 use completed::Completed;
-use room::clean;
+use room::{Room, clean};
+
+// The length of a full packet.
+const FULL: u8 = PART as u8;
 
 // Whether a packet of this length may be held at a position; 0 is none.
 fn rule(total: u8, position: usize, len: u8) -> bool
@@ -16,14 +19,14 @@ fn rule(total: u8, position: usize, len: u8) -> bool
     if count <= position {
         len == 0
     } else if count - position == 1 {
-        len <= 14
+        len <= FULL
     } else {
-        matches!(len, 0 | 14)
+        matches!(len, 0 | FULL)
     }
 }
 
 // How many positions are held.
-pub fn held(lens: [u8; 6]) -> usize
+pub fn held(lens: Lengths) -> usize
     ensures { result ≡ held_of lens }
 {
     let mut n = 0;
@@ -40,17 +43,17 @@ fn unused(slot: &[u8], len: u8) -> bool
     requires { length slot.now ≡ 14 }
     ensures { result ≡ zeros_of (drop len slot.now) }
 {
-    len == 14 || clean(slot, len as usize)
+    len == FULL || clean(slot, len as usize)
 }
 
 // Whether each slot obeys the packet rules, with zeros after its data.
-fn ruled(total: u8, lens: [u8; 6], room: &[u8; 84]) -> bool
+fn ruled(total: u8, lens: Lengths, room: &Room) -> bool
     ensures { result ≡ slots_of total 0 lens room.now }
 {
-    for i in 0..6 {
+    for i in 0..POSITIONS {
         let len = lens[i];
-        let from = 14 * i;
-        let to = from + 14;
+        let from = PART * i;
+        let to = from + PART;
         if !(rule(total, i, len) && unused(&room[from..to], len)) {
             return false;
         }
@@ -59,7 +62,7 @@ fn ruled(total: u8, lens: [u8; 6], room: &[u8; 84]) -> bool
 }
 
 // The same where nothing is collected: no lengths, and zeros all over the room.
-fn blank(lens: [u8; 6], room: &[u8; 84]) -> bool
+fn blank(lens: Lengths, room: &Room) -> bool
     ensures { result ≡ slots_of 0 0 lens room.now }
 {
     clean(&lens, 0) && clean(room, 0)
@@ -74,7 +77,7 @@ impl Slots {
     }
 
     // Whether the slots are sound with this room, beside these completed IDs.
-    pub fn sound(self, completed: Completed, room: &[u8; 84]) -> bool
+    pub fn sound(self, completed: Completed, room: &Room) -> bool
         ensures { result ≡ sound_of completed (collection_of self room.now) }
     {
         if self.total == 0 {

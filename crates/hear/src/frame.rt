@@ -6,9 +6,10 @@ ghost use Rattle.hear.specs.Frame.{framed_by};
 
 use collect::Slots;
 use completed::Completed;
+use room::Room;
 
 // Whether all of a record but its run is sound: completed IDs, slots and room, and the length of the running body.
-pub fn framed(completed: Completed, slots: Slots, room: &[u8; 84], len: usize) -> bool
+pub fn framed(completed: Completed, slots: Slots, room: &Room, len: usize) -> bool
     ensures { result ≡ framed_by completed (collection_of slots room.now) len }
 {
     completed.sound()

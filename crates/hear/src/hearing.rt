@@ -12,12 +12,13 @@ use collect::{Slots, begun};
 use completed::{Completed, none};
 use reader::{Packet, read_packet};
 use refusal::Refusal;
+use room::Room;
 
 // A reset leaves nothing collected, and no completed ID.
-fn cleared(room: &mut [u8; 84]) -> Heard
+fn cleared(room: &mut Room) -> Heard
     ensures { left_of result room.new ≡ reset_left }
 {
-    *room = [0; 84];
+    *room = [0; room::SIZE];
     Heard {
         outcome: Ok(Outcome::Reset),
         completed: none(),
@@ -30,7 +31,7 @@ pub fn hear(
     completed: Completed,
     slots: Slots,
     len: usize,
-    room: &mut [u8; 84],
+    room: &mut Room,
     mid: u8,
     bytes: &[u8],
 ) -> Heard

@@ -7,10 +7,11 @@ ghost use Rattle.collect.specs.Sound.{sound_of};
 ghost use Rattle.hear.specs.Join.{left_of, stay_of, whole_of, count_of, goes_by, taking_of, join_by, Right, Open, Whole};
 
 use crate::{Heard, Outcome};
-use collect::{Slots, begun, held, same};
+use collect::{PART, Slots, begun, held, same};
 use completed::Completed;
 use judge::judge;
 use refusal::Refusal;
+use room::Room;
 
 // Nothing changes.
 pub(crate) fn stays(completed: Completed, slots: Slots, outcome: Result<Outcome, Refusal>) -> Heard
@@ -24,12 +25,12 @@ pub(crate) fn stays(completed: Completed, slots: Slots, outcome: Result<Outcome,
 }
 
 // All packets are held: the body is released.
-fn released(completed: Completed, slots: Slots, room: &[u8; 84]) -> Heard
+fn released(completed: Completed, slots: Slots, room: &Room) -> Heard
     requires { Whole (collection_of slots room.now) }
     ensures { left_of result room.now ≡ whole_of completed (collection_of slots room.now) }
 {
     let at = slots.total as usize - 1;
-    let len = 14 * at + slots.lens[at] as usize;
+    let len = PART * at + slots.lens[at] as usize;
     let verdict = judge(&room[..len]);
     Heard {
         outcome: Ok(Outcome::Released { verdict, len }),
@@ -39,11 +40,11 @@ fn released(completed: Completed, slots: Slots, room: &[u8; 84]) -> Heard
 }
 
 // Writes data to the front of a position's slot.
-fn fill(room: &mut [u8; 84], position: usize, part: &[u8])
+fn fill(room: &mut Room, position: usize, part: &[u8])
     requires { (position < 6) × (length part.now ≤ 14) }
     ensures { room.new ≡ laid (take (14 * position) room.old ++ part.now) room.old }
 {
-    let at = 14 * position;
+    let at = PART * position;
     let to = at + part.len();
     room[at..to].copy_from_slice(part);
 }
@@ -52,7 +53,7 @@ fn fill(room: &mut [u8; 84], position: usize, part: &[u8])
 fn placed(
     completed: Completed,
     slots: Slots,
-    room: &mut [u8; 84],
+    room: &mut Room,
     position: usize,
     part: &[u8],
 ) -> Heard
@@ -69,22 +70,22 @@ fn placed(
 }
 
 // The slots that a packet of this ID goes into: new ones, where none is collected or another ID is, with zeros in the room.
-fn taking(slots: Slots, room: &mut [u8; 84], id: u8, total: u8) -> Slots
+fn taking(slots: Slots, room: &mut Room, id: u8, total: u8) -> Slots
     ensures { collection_of result room.new ≡ taking_of (collection_of slots room.old) id total }
 {
     if slots.total != 0 && slots.id == id {
         return slots;
     }
-    *room = [0; 84];
+    *room = [0; room::SIZE];
     begun(id, total)
 }
 
 // Whether a position's slot holds these data.
-fn holds(room: &[u8; 84], position: usize, len: u8, part: &[u8]) -> bool
+fn holds(room: &Room, position: usize, len: u8, part: &[u8]) -> bool
     requires { (position < 6) × (len ≤ 14) }
     ensures { result ≡ same_of (take len (drop (14 * position) room.now)) part.now }
 {
-    let from = 14 * position;
+    let from = PART * position;
     let to = from + len as usize;
     same(&room[from..to], part)
 }
@@ -93,7 +94,7 @@ fn holds(room: &[u8; 84], position: usize, len: u8, part: &[u8]) -> bool
 fn goes_into(
     completed: Completed,
     slots: Slots,
-    room: &mut [u8; 84],
+    room: &mut Room,
     total: u8,
     position: usize,
     part: &[u8],
@@ -116,7 +117,7 @@ pub(crate) fn join(
     completed: Completed,
     slots: Slots,
     len: usize,
-    room: &mut [u8; 84],
+    room: &mut Room,
     id: u8,
     total: u8,
     position: usize,

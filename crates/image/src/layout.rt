@@ -3,19 +3,25 @@
 ghost use Rattle.std.specs.Prelude.{◌≡◌};
 ghost use Rattle.image.specs.Layout.{image_of, record_of};
 
-use collect::Slots;
+use collect::{POSITIONS, Slots};
 use completed::Completed;
 use machine::{Loop, Run};
 use perform::Settings;
 use sign::Sign;
 
+// The bytes of an image.
+pub const SIZE: usize = 106;
+
+// A record as bytes at fixed places.
+pub type Image = [u8; SIZE];
+
 // The record that an image is.
-pub fn record_of(image: [u8; 106]) -> Sign
+pub fn record_of(image: Image) -> Sign
     ensures { result ≡ record_of image }
 {
     let mut ids = [0; 4];
-    let mut lens = [0; 6];
-    let mut room = [0; 84];
+    let mut lens = [0; POSITIONS];
+    let mut room = [0; room::SIZE];
     ids.copy_from_slice(&image[1..5]);
     lens.copy_from_slice(&image[7..13]);
     room.copy_from_slice(&image[13..97]);
@@ -49,7 +55,7 @@ pub fn record_of(image: [u8; 106]) -> Sign
 }
 
 // The image of a record.
-pub fn image_of(sign: Sign) -> [u8; 106]
+pub fn image_of(sign: Sign) -> Image
     ensures { result ≡ image_of sign }
 {
     let Sign {
@@ -58,7 +64,7 @@ pub fn image_of(sign: Sign) -> [u8; 106]
         room,
         run,
     } = sign;
-    let mut image = [0; 106];
+    let mut image = [0; SIZE];
     image[0] = completed.count;
     image[5] = slots.id;
     image[6] = slots.total;

@@ -4,4 +4,4 @@
 //   layout  each field's place in the image: any image to its record, and a record to its image
 mod layout;
 
-pub use layout::{image_of, record_of};
+pub use layout::{Image, SIZE, image_of, record_of};

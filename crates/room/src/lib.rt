@@ -1,8 +1,14 @@
 #![tactic(auto)]
 
-// Whether unused room holds zeros, of a body, of the packets collected and of the completed IDs: rule R5.
+// A record's room, and whether unused room holds zeros, of a body, of the packets collected and of the completed IDs: rule R5.
 ghost use Rattle.std.specs.Prelude.{◌≡◌, drop};
 ghost use Rattle.room.specs.Room.{zeros_of};
+
+// The bytes of a room.
+pub const SIZE: usize = 84;
+
+// A record's room: it holds the data of the packets collected, or the running body.
+pub type Room = [u8; SIZE];
 
 // Whether all bytes are 0: every byte is looked at, so that the compiler can take many at once.
 fn zeros(bytes: &[u8]) -> bool

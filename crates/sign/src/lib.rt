@@ -19,6 +19,7 @@ use hear::Outcome;
 use machine::Run;
 use perform::Performed;
 use refusal::Refusal;
+use room::Room;
 
 // The record: completed IDs, the slots of the packets being collected, one room, and the running program with the settings. The
 // room holds the packets' data while Ready and the running body while Busy: Busy collects nothing, and Ready has no body.
@@ -26,7 +27,7 @@ use refusal::Refusal;
 pub struct Sign {
     pub completed: Completed,
     pub slots: Slots,
-    pub room: [u8; 84],
+    pub room: Room,
     pub run: Run,
 }
 
@@ -36,7 +37,7 @@ pub struct Sign {
 pub struct Received {
     pub sign: Sign,
     pub outcome: Result<Outcome, Refusal>,
-    pub body: [u8; 84],
+    pub body: Room,
 }
 
 // The record after a reset, and whether the record was sound.

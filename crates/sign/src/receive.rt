@@ -19,7 +19,7 @@ impl Sign {
         Received {
             sign: self,
             outcome,
-            body: [0; 84],
+            body: [0; room::SIZE],
         }
     }
 
@@ -38,7 +38,7 @@ impl Sign {
         ensures { result ≡ emptied_of self }
     {
         Sign {
-            room: [0; 84],
+            room: [0; room::SIZE],
             ..self
         }
     }

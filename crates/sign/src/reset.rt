@@ -34,7 +34,7 @@ fn fresh(dim: u8, bright: u8) -> Sign
     Sign {
         completed,
         slots,
-        room: [0; 84],
+        room: [0; room::SIZE],
         run,
     }
 }

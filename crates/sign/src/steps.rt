@@ -6,13 +6,14 @@ ghost use Rattle.sign.specs.Step.{room_after, step_of};
 use crate::{Sign, Stepped};
 use hear::framed;
 use refusal::Refusal;
+use room::Room;
 
 // Empties the room where a body of one length has run to its end, which is a length of 0 after the step.
-fn empty(room: &mut [u8; 84], before: usize, after: usize)
+fn empty(room: &mut Room, before: usize, after: usize)
     ensures { room.new ≡ room_after room.old before after }
 {
     if before != 0 && after == 0 {
-        *room = [0; 84];
+        *room = [0; room::SIZE];
     }
 }
 

@@ -7,6 +7,7 @@ ghost use Rattle.words.specs.Says.{received_bytes};
 use crate::laying::lay;
 use hear::Outcome;
 use refusal::Refusal;
+use room::Room;
 
 // An outcome as a number, the number for no of a released body's program with its place, and the body's length; 0 for the number and the place
 // where it is accepted, and for all three where none was released.
@@ -45,7 +46,7 @@ pub fn tell_outcome(outcome: Result<Outcome, Refusal>) -> u32
 }
 
 // What a sign made of the bytes that came: four words, and the body after them.
-pub fn tell_received(outcome: Result<Outcome, Refusal>, body: &[u8; 84], answer: &mut [u8]) -> u32
+pub fn tell_received(outcome: Result<Outcome, Refusal>, body: &Room, answer: &mut [u8]) -> u32
     ensures result { result ≡ first_or (answer_row 100 answer.old ∷ []) (told_of outcome).number }
     ensures told { answer.new ≡ told_in 100 (received_bytes outcome body.now) answer.old }
 {

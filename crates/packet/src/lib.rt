@@ -11,4 +11,4 @@ mod write;
 
 pub use mid::{allowed, forbidden};
 pub use sum::{checksum, sum_of};
-pub use write::{AROUND, FULL, total, write_packet, write_query, write_reset};
+pub use write::{AROUND, PART, total, write_packet, write_query, write_reset};

@@ -11,7 +11,7 @@ use crate::sum::{negated, sum_of};
 use refusal::Refusal;
 
 // The data bytes of a full packet (W5).
-pub const FULL: usize = 14;
+pub const PART: usize = 14;
 
 // The bytes of a packet around its data: five in front, two behind (W2).
 pub const AROUND: usize = 7;
@@ -68,7 +68,7 @@ pub fn total(id: u8, body: &[u8]) -> Result<usize, Refusal>
         return Err(Refusal::WrongId);
     }
     // `div_ceil` costs more: a packet 164 instructions (162), past 1.25 of the reference, a transmission of 14 bytes 212 (203).
-    Ok((n + FULL - 1) / FULL)
+    Ok((n + PART - 1) / PART)
 }
 
 // The packet at one position of a body, for a MID that is not judged here.
@@ -80,8 +80,8 @@ fn write_at(mid: u8, id: u8, body: &[u8], position: u8, out: &mut [u8]) -> Resul
     if total <= at {
         return Err(Refusal::NoPosition);
     }
-    let from = FULL * at;
-    let len = (body.len() - from).min(FULL);
+    let from = PART * at;
+    let len = (body.len() - from).min(PART);
     let to = from + len;
     if out.len() < len + AROUND {
         return Err(Refusal::NoRoom);

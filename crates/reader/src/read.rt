@@ -2,7 +2,7 @@
 ghost use Rattle.std.specs.Prelude.{◌≡◌, ◌<◌, ◌≤◌};
 ghost use Rattle.reader.specs.Read.{fields_of, lowest_of, read_of};
 
-use packet::{AROUND, FULL, allowed, sum_of};
+use packet::{AROUND, PART, allowed, sum_of};
 use refusal::Refusal;
 
 // What a sign reads off the bytes that came.
@@ -67,7 +67,7 @@ fn read_fields(id: u8, fifth: u8, len: usize) -> Result<Packet, Refusal>
     if total <= position + 1 {
         return Ok(packet);
     }
-    if len < FULL + AROUND {
+    if len < PART + AROUND {
         return Err(Refusal::ShortPart);
     }
     Ok(packet)
@@ -82,7 +82,7 @@ fn lowest(mid: u8, bytes: &[u8]) -> Result<Packet, Refusal>
         return Err(Refusal::TooFewBytes);
     };
     let n = bytes.len();
-    if FULL + AROUND < n {
+    if PART + AROUND < n {
         return Err(Refusal::TooManyBytes);
     }
     if count as usize != n {

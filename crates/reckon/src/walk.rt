@@ -109,8 +109,7 @@ fn told(flow: Flow, sums: Sums) -> Result<Foretold, Fault>
     }
 }
 
-// What is told of a body's commands, started at these settings. The loop steps by what was read, so there is no list to go over; the
-// one of judge has the same three lines and keeps other things.
+// What is told of a body's commands, started at these settings. The walk of judge has the same three lines and keeps other things.
 pub(crate) fn walk(body: &Body<'_>, settings: Settings) -> Result<Foretold, Fault>
     requires { front_of body.now ≡ begun }
     ensures { result ≡ walked_of body.now settings }

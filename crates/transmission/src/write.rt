@@ -5,7 +5,7 @@ ghost use Rattle.packet.specs.Mid.{Allowed, mid_row};
 ghost use Rattle.packet.specs.Wire.{transmission_of};
 ghost use Rattle.packet.specs.Write.{Writes, transmission_rows};
 
-use packet::{AROUND, FULL, allowed, total, write_packet};
+use packet::{AROUND, PART, allowed, total, write_packet};
 use refusal::Refusal;
 
 // All packets of a body, each laid into the buffer behind the one before, for a MID that is not forbidden.
@@ -19,7 +19,7 @@ fn write_all(mid: u8, id: u8, body: &[u8], out: &mut [u8]) -> Result<usize, Refu
         return Err(Refusal::NoRoom);
     }
     for position in 0..total {
-        let at = (FULL + AROUND) * position;
+        let at = (PART + AROUND) * position;
         write_packet(mid, id, body, position as u8, &mut out[at..])?;
     }
     Ok(size)

@@ -55,8 +55,8 @@ fn over(flow: Flow, found: Option<Found>) -> Walked
 }
 
 // The commands of a body, from its first byte to its end, and the place among them with what is read at it. The loop steps by what
-// was read, so there is no list to go over. What reckon walks has a loop of its own: the two share reading and judging a command,
-// and a walk lent what each keeps of it would be longer than the three lines that they have in common.
+// was read, so there is no list to go over. The walk of reckon has a loop of its own: the two have in common that a command is read,
+// judged and passed, which is three lines, and one walk for both would need a closure for what each of them keeps.
 pub(crate) fn walk(body: &[u8], place: usize) -> Walked
     ensures { result ≡ walked_of (commands_of body.now) (placed_of (stand_at place (tokens_of body.now 0) 1 0 false []) (read_of body.now place)) }
 {

@@ -44,7 +44,7 @@ fn plain(kind: Kind) -> bool
     matches!(role_of(kind), Role::Plain)
 }
 
-// One pass of a loop: its plain commands from a place on, and the command behind them.
+// One pass of a loop: its plain commands from a place on, and the command behind them. It judges nothing, so it is no part of a walk.
 fn pass(body: &Body<'_>, from: Reckoned) -> Reckoned
     ensures { result ≡ pass_of body.now from }
 {

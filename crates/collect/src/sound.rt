@@ -73,20 +73,26 @@ impl Slots {
     pub fn none(self) -> bool
         ensures { result ≡ nothing_of self }
     {
-        self.id == 0 && self.total == 0 && clean(&self.lens, 0)
+        // A copy, as in `completed`: lent where it stands, it costs a receive more.
+        let lens = self.lens;
+        self.id == 0 && self.total == 0 && clean(&lens, 0)
     }
 
     // Whether the slots are sound with this room, beside these completed IDs.
     pub fn sound(self, completed: Completed, room: &Room) -> bool
         ensures { result ≡ sound_of completed (collection_of self room.now) }
     {
-        if self.total == 0 {
-            return self.id == 0 && blank(self.lens, room);
+        // Copies, as above.
+        let id = self.id;
+        let total = self.total;
+        let lens = self.lens;
+        if total == 0 {
+            return id == 0 && blank(lens, room);
         }
-        self.id <= 0x3f
-            && !completed.has(self.id)
-            && self.total <= 6
-            && (1..self.total as usize).contains(&held(self.lens))
-            && ruled(self.total, self.lens, room)
+        id <= 0x3f
+            && !completed.has(id)
+            && total <= 6
+            && (1..total as usize).contains(&held(lens))
+            && ruled(total, lens, room)
     }
 }

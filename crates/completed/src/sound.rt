@@ -26,7 +26,9 @@ impl Completed {
     pub fn sound(self) -> bool
         ensures { result ≡ sound_of self }
     {
+        // A copy, as in `has`.
+        let ids = self.ids;
         let count = self.count as usize;
-        count <= 4 && differ(self.ids, count) && clean(&self.ids, count)
+        count <= 4 && differ(ids, count) && clean(&ids, count)
     }
 }

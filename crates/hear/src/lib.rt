@@ -26,7 +26,8 @@ pub enum Outcome {
     Released { verdict: Verdict, len: usize },
 }
 
-// The outcome or the refusal, with the completed IDs and the slots as they are after it.
+// The outcome or the refusal, with the completed IDs and the slots as they are after it. The two go side by side through this crate: as one
+// struct, and a packet's ID, N and position as another, they cost a query some twenty instructions, which misses its goal of speed.
 #[derive(Clone, Copy)]
 pub struct Heard {
     pub outcome: Result<Outcome, Refusal>,

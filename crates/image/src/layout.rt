@@ -25,32 +25,40 @@ pub fn record_of(image: Image) -> Sign
     ids.copy_from_slice(&image[1..5]);
     lens.copy_from_slice(&image[7..13]);
     room.copy_from_slice(&image[13..97]);
+    let len = image[97] as usize;
+    let place = image[98] as usize;
+    let behind = image[99] as usize;
+    let completed = Completed {
+        count: image[0],
+        ids,
+    };
+    let slots = Slots {
+        id: image[5],
+        total: image[6],
+        lens,
+    };
+    let inner = Loop {
+        place: behind,
+        left: image[100],
+    };
+    let settings = Settings {
+        pace: image[101],
+        scans: image[102],
+        sink: image[103],
+        dim: image[104],
+        bright: image[105],
+    };
+    let run = Run {
+        len,
+        place,
+        inner,
+        settings,
+    };
     Sign {
-        completed: Completed {
-            count: image[0],
-            ids,
-        },
-        slots: Slots {
-            id: image[5],
-            total: image[6],
-            lens,
-        },
+        completed,
+        slots,
         room,
-        run: Run {
-            len: image[97] as usize,
-            place: image[98] as usize,
-            inner: Loop {
-                place: image[99] as usize,
-                left: image[100],
-            },
-            settings: Settings {
-                pace: image[101],
-                scans: image[102],
-                sink: image[103],
-                dim: image[104],
-                bright: image[105],
-            },
-        },
+        run,
     }
 }
 
@@ -58,12 +66,14 @@ pub fn record_of(image: Image) -> Sign
 pub fn image_of(sign: Sign) -> Image
     ensures { result ≡ image_of sign }
 {
-    let Sign {
-        completed,
-        slots,
-        room,
-        run,
-    } = sign;
+    // Copies of the record's parts: taken apart where they stand, with the fields of `collect` and `completed`, a receive costs more.
+    let completed = sign.completed;
+    let ids = completed.ids;
+    let slots = sign.slots;
+    let lens = slots.lens;
+    let room = sign.room;
+    let run = sign.run;
+    let settings = run.settings;
     let mut image = [0; SIZE];
     image[0] = completed.count;
     image[5] = slots.id;
@@ -72,13 +82,13 @@ pub fn image_of(sign: Sign) -> Image
     image[98] = (run.place % 256) as u8;
     image[99] = (run.inner.place % 256) as u8;
     image[100] = run.inner.left;
-    image[101] = run.settings.pace;
-    image[102] = run.settings.scans;
-    image[103] = run.settings.sink;
-    image[104] = run.settings.dim;
-    image[105] = run.settings.bright;
+    image[101] = settings.pace;
+    image[102] = settings.scans;
+    image[103] = settings.sink;
+    image[104] = settings.dim;
+    image[105] = settings.bright;
     image[13..97].copy_from_slice(&room);
-    image[7..13].copy_from_slice(&slots.lens);
-    image[1..5].copy_from_slice(&completed.ids);
+    image[7..13].copy_from_slice(&lens);
+    image[1..5].copy_from_slice(&ids);
     image
 }

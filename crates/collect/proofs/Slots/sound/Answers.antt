@@ -8,16 +8,16 @@ use Rattle.collect.specs.Slots.{slots_of}
 use Rattle.collect.specs.Sound.{sound_of}
 use Rattle.collect.proofs.Slots.sound.Goals as goal
 
-pub returns-then-self-eq0-2 : goal.returns-then-self-eq0-2
+pub returns-then-id-eq0 : goal.returns-then-id-eq0
 unfolding sound_of
-returns-then-self-eq0-2 c =
+returns-then-id-eq0 c =
     let a = c.args in
-    let none : a.self.total ≡ 0 = c.if-self-eq0.true in
+    let none : a.self.total ≡ 0 = c.if-total-eq0.true in
     search (tests, c.blank.ensures ∙ ap (λ (t : ℕ). slots_of t 0 a.self.lens a.room.now) (sym none))
 
-pub returns-else-self-eq0-2 : goal.returns-else-self-eq0-2
+pub returns-else-id-eq0 : goal.returns-else-id-eq0
 unfolding sound_of
-returns-else-self-eq0-2 c = search tests
+returns-else-id-eq0 c = search tests
 
 pub returns-then-contains : goal.returns-then-contains
 unfolding sound_of

@@ -12,10 +12,12 @@ use room::Room;
 pub fn framed(completed: Completed, slots: Slots, room: &Room, len: usize) -> bool
     ensures { result ≡ framed_by completed (collection_of slots room.now) len }
 {
-    completed.sound()
-        && if len == 0 {
-            slots.sound(completed, room)
-        } else {
-            slots.none()
-        }
+    // Tests in a row, and not one with `&&`: with that the last packet of a body costs an instruction more, and misses its goal of speed.
+    if !completed.sound() {
+        return false;
+    }
+    if len == 0 {
+        return slots.sound(completed, room);
+    }
+    slots.none()
 }

@@ -73,7 +73,7 @@ impl Slots {
     pub fn none(self) -> bool
         ensures { result ≡ nothing_of self }
     {
-        // A copy, as in `completed`: lent where it stands, it costs a receive more.
+        // A copy, for the reason given in `completed`.
         let lens = self.lens;
         self.id == 0 && self.total == 0 && clean(&lens, 0)
     }
@@ -82,7 +82,7 @@ impl Slots {
     pub fn sound(self, completed: Completed, room: &Room) -> bool
         ensures { result ≡ sound_of completed (collection_of self room.now) }
     {
-        // Copies, as above.
+        // Copies, for the same reason.
         let id = self.id;
         let total = self.total;
         let lens = self.lens;

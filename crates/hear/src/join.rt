@@ -76,7 +76,7 @@ fn placed(
 fn taking(slots: Slots, room: &mut Room, id: u8, total: u8) -> Slots
     ensures { collection_of result room.new ≡ taking_of (collection_of slots room.old) id total }
 {
-    // Two tests, and not one with `||`: with that a receive costs twenty instructions more.
+    // Two tests, and not one with `&&` and one way to begin: with that the last packet of a body costs twenty instructions more.
     if slots.total == 0 {
         *room = [0; room::SIZE];
         return begun(id, total);

@@ -44,13 +44,6 @@ laid_behind p q o =
     ∙ sym (append_assoc p q (drop (length p + length q) o))
     ∙ ap (λ (n : ℕ). p ++ q ++ drop n o) (sym (length-append p q))
 
--- a run of stores at the front lays them
-pub laid_sets : (p o : List ℕ) → length p ≤ length o → sets o 0 p ≡ laid p o
-unfolding laid
-laid_sets p o h =
-    let fits : 0 + length p ≤ length o = omega arith in
-    sets-eq p o 0 fits ∙ ap (λ (n : ℕ). p ++ drop n o) (zero-add (length p))
-
 -- a run of stores at a place lays them behind what stands before it
 pub laid_at : (at : ℕ) (v o : List ℕ) → at + length v ≤ length o → sets o at v ≡ laid (take at o ++ v) o
 unfolding laid

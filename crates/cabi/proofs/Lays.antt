@@ -48,21 +48,6 @@ use Rattle.cabi.specs.Calls.{Tells, image_row, guarded, kept_of}
 pub tells : {rows : List Row} {bytes out after : List ℕ} {w : Result ℕ No} {r : ℕ} → AllNamed rows → Writes rows bytes out w after → r ≡ wrote_of w → Tells rows bytes out r after
 tells {rows} {bytes} named h e = record { told = e ∙ ap wrote_of h.answered ∙ ap length_told (rows_told rows bytes named); left = h.left }
 
--- the same of a sign in an image of the right size
-pub sign_tells : (rows : Sign → List Row) (bytes : Sign → List ℕ) (image out : List ℕ) {after : List ℕ} {s : Sign} {w : Result ℕ No} {r : ℕ}
-    → length image ≡ image_size
-    → AllNamed (rows (record_of image)) → s ≡ record_of image → Writes (rows s) (bytes s) out w after → r ≡ wrote_of w
-    → Tells (image_row image ∷ rows (record_of image)) (bytes (record_of image)) out r after
-sign_tells rows bytes image out {after} {s} {w} size named e h er =
-    let own = rows (record_of image) in
-    let own_bytes = bytes (record_of image) in
-    let h' = subst (λ (x : Sign). Writes (rows x) (bytes x) out w after) e h in
-    let guard : first_of own ≡ first_of (image_row image ∷ own) = sym (when_false _ 251 (first_of own) (ap not (eq-eqb (length image) image_size size))) in
-    record {
-      told = er ∙ ap wrote_of h'.answered ∙ ap length_told (rows_told own own_bytes named ∙ ap (λ (n : ℕ). written_of n own_bytes) guard);
-      left = h'.left ∙ ap (λ (n : ℕ). buffer_of n own_bytes out) guard;
-    }
-
 -- what is told of x is told of y, where x is y
 abbrev pub Says : {X : Type 0} → (told : X → Told) → (result : Told → ℕ) → (size : ℕ) → (answer : List ℕ) → (r : ℕ) → (after : List ℕ) → X → Type 0
 Says told result size answer r after x =
@@ -95,9 +80,6 @@ guard_is image rows n size ill own =
 pub answer_is : (size : ℕ) (answer : List ℕ) (n : ℕ) → size ≤ length answer → first_or (answer_row size answer ∷ []) n ≡ n
 answer_is size answer n room = when_false (ltb (length answer) size) 252 n (le-ltb (length answer) size room)
 
-pub answer_short : (size : ℕ) (answer : List ℕ) (n : ℕ) → length answer < size → first_or (answer_row size answer ∷ []) n ≡ 252
-answer_short size answer n few = when_true (ltb (length answer) size) 252 n (lt-ltb (length answer) size few)
-
 -- a call with a MID and an answer that is long enough: where its own number for a forbidden MID is 19, the guard changes nothing
 pub mid_is : (mid size : ℕ) (answer : List ℕ) (n : ℕ) → size ≤ length answer → (is_forbidden mid ≡ true → n ≡ 19)
     → first_or (mid_row mid ∷ answer_row size answer ∷ []) n ≡ n
@@ -107,17 +89,6 @@ mid_is mid size answer n room bad = go (is_forbidden mid) refl
     go true e = sym (bad e)
     go false e = answer_is size answer n room
 
--- and one that is too short
-pub mid_short : (mid size : ℕ) (answer : List ℕ) (n : ℕ) → length answer < size
-    → first_or (mid_row mid ∷ answer_row size answer ∷ []) n ≡ when (is_forbidden mid) 19 252
-mid_short mid size answer n few = ap (when (is_forbidden mid) 19) (answer_short size answer n few)
-
--- a reader whose answer is too short: 19 or 252, and the answer stays
-pub reader_short : (mid size : ℕ) (bytes answer : List ℕ) (n : ℕ) {r : ℕ} → length answer < size → r ≡ when (is_forbidden mid) 19 252
-    → (r ≡ first_or (mid_row mid ∷ answer_row size answer ∷ []) n) × (answer ≡ told_in size bytes answer)
-reader_short mid size bytes answer n few e =
-    (e ∙ sym (mid_short mid size answer n few), sym (when_true (ltb (length answer) size) answer (laid bytes answer) (lt-ltb (length answer) size few)))
-
 -- and one whose answer is long enough: what is read is told
 pub reader_told : {X : Type 0} (told : X → Told) (mid size : ℕ) (answer : List ℕ) {r : ℕ} {after : List ℕ} (x y : X) → x ≡ y → size ≤ length answer
     → (is_forbidden mid ≡ true → (told y).number ≡ 19)
@@ -126,14 +97,6 @@ pub reader_told : {X : Type 0} (told : X → Told) (mid size : ℕ) (answer : Li
 reader_told told mid size answer x y e room bad h =
     let h' = told_of_lem told (λ (t : Told). t.number) size answer x y e h in
     (h'.0 ∙ answer_is size answer (told y).number room ∙ sym (mid_is mid size answer (told y).number room bad), h'.1)
-
--- neither is a yes
-pub mid_not_0 : (mid : ℕ) → ◌≡◌ {A = ℕ} (when (is_forbidden mid) 19 252) 0 → ⊥
-mid_not_0 mid = go (is_forbidden mid)
-  where
-    go : (t : Bool) → ◌≡◌ {A = ℕ} (when t 19 252) 0 → ⊥
-    go true z = omega arith
-    go false z = omega arith
 
 -- the outcome of a call on a sign in an image that has these rows after the guard, tells these bytes and leaves this image, where it is
 -- not refused

@@ -31,9 +31,6 @@ unfolding begun_of
 begun_open id total position len r =
     record { right = r; slots = begun_slots id total; free = get_or-replicate 6 position 0 0 (omega (arith, r.below, r.most)) }
 
-pub open_there : (n : Collection) (c : Collection) (position len : ℕ) → n ≡ c → Open c position len → Open n position len
-open_there n c position len e o = subst (λ (x : Collection). Open x position len) (sym e) o
-
 -- a right packet obeys the rule of its slot
 right_rule : (total position len : ℕ) → Right total position len → rule_of total (0 + position) len ≡ true
 right_rule total position len r =

@@ -53,17 +53,3 @@ ends_at s at more first within found e =
 -- a byte that is no line end moves the end of the line on
 pub goes_on_lem : (s : List ℕ) (at : ℕ) → at < length s → (get_or s at 0 ≡ 0x0A → ⊥) → line_end at (drop at s) ≡ line_end (at + 1) (drop (at + 1) s)
 goes_on_lem s at within e = ap (line_end at) (drop_next s at 0 within) ∙ when_false (eqb (get_or s at 0) 0x0A) _ _ (ne_eqb (get_or s at 0) 0x0A e)
-
--- no digit is over 15
-pub digit_most : (x : ℕ) → digit_of x ≤ 15
-digit_most x = go (ltb x 0x30) (leb x 0x39) refl (ltb x 0x41) (leb x 0x46) refl (ltb x 0x61) (leb x 0x66) refl
-  where
-    go : (a b : Bool) → leb x 0x39 ≡ b → (c d : Bool) → leb x 0x46 ≡ d → (e f : Bool) → leb x 0x66 ≡ f
-        → when a 0 (when b (x - 0x30) (when c 0 (when d (x - 0x41 + 10) (when e 0 (when f (x - 0x61 + 10) 0))))) ≤ 15
-    go true b eb c d ed e f ef = omega arith
-    go false true eb c d ed e f ef = omega (arith, leb-true x 0x39 eb)
-    go false false eb true d ed e f ef = omega arith
-    go false false eb false true ed e f ef = omega (arith, leb-true x 0x46 ed)
-    go false false eb false false ed true f ef = omega arith
-    go false false eb false false ed false true ef = omega (arith, leb-true x 0x66 ef)
-    go false false eb false false ed false false ef = omega arith

@@ -132,11 +132,6 @@ look_good q close ts p (Within l) = refl
 look_good q forever ts p (Within l) = refl
 look_good q again ts p (Within l) = refl
 
-look_bad : (q : ℕ) (w : Fault) (p : ℕ) (f : Flow) → beyond q (bad w) [] p f ≡ look q (turn_at (bad w) p f) []
-look_bad q w p Ended = refl
-look_bad q w p Free = refl
-look_bad q w p (Within l) = refl
-
 -- the place is here
 pub stand_here : (b : List ℕ) (q p : ℕ) (f : Flow) → p < length b → p ≡ q → stand_from q (tokens_of b p) p f ≡ Some (inside_of (opens_of f))
 stand_here b q p f h e = ap (λ (ts : List Tok). stand_from q ts p f) (tokens_first b p h) ∙ by (get b p)

@@ -3,16 +3,13 @@ use Prim.Native.Nat.{ℕ, ◌+◌, ◌-◌, ◌*◌, ◌≤◌, ◌<◌, min}
 use mathlib.Core.Path.{◌≡◌, refl, sym, ap, subst, ◌∙◌}
 use mathlib.Core.Bool.{Bool, true, false}
 use mathlib.Core.List.{List, [], ◌∷◌}
-use mathlib.Core.Logic.{dite}
-use native.Mathlib.Decide.{dec_lt}
 use native.Mathlib.Omega.{arith}
 use lib.Dec.{eqb, leb}
-use lib.ListN.{length, get_or, take, drop, drop_of_length-le, length-take, length-drop}
-use lib.Seq.{take_all}
+use lib.ListN.{length, get_or, take, drop, length-take, length-drop}
 use Rattle.basis.specs.Choice.{when}
 use Rattle.basis.proofs.Lists.{drop_next}
 use Rattle.params.specs.Bytes.{tilde}
-use Rattle.measure.specs.Width.{font, font_of, switched_of, measured, with_byte, with_all, measured_of, widths_in, widths_of, widest, counted_of}
+use Rattle.measure.specs.Width.{font, font_of, switched_of, measured, with_byte, with_all, measured_of, widths_of, widest, counted_of}
 use Rattle.measure.specs.Capped.{most, topped_of}
 use Rattle.measure.specs.declared.fonts.Font.{Font}
 use Rattle.measure.specs.declared.width.Measured.{Measured}
@@ -103,30 +100,9 @@ counted_all s h =
 pub part_all : (b : List ℕ) (p n : ℕ) → length b ≤ 111 → counted_of (widths_of (take n (drop p b))) ≡ widths_of (take n (drop p b))
 part_all b p n h = counted_all (take n (drop p b)) (omega (arith, length-take n (drop p b), length-drop p b))
 
--- a text that stands behind the body's end is empty, and one that would reach past it ends there
-pub part_none : (b : List ℕ) (p n : ℕ) → length b < p → ◌≡◌ {A = Widths} (record { whole = 0; lit = 0 }) (counted_of (widths_of (take n (drop p b))))
-part_none b p n h =
-    let s = take n (drop p b) in
-    let w = whole_most s in
-    let z : (widths_of s).whole ≡ 0 = omega (arith, length-take n (drop p b), length-drop p b) in
-    both 0 0 (min (widths_of s).whole widest) (min (widths_of s).lit widest) (omega arith) (omega arith)
-
-pub part_rest : (b : List ℕ) (p n : ℕ) → take (min (length b - p) n) (drop p b) ≡ take n (drop p b)
-part_rest b p n =
-    dite (dec_lt (length b - p) n)
-    (λ h.
-    let e : min (length b - p) n ≡ length b - p = omega arith in
-    ap (λ (k : ℕ). take k (drop p b)) e
-    ∙ take_all (length b - p) (drop p b) (omega (arith, length-drop p b))
-    ∙ sym (take_all n (drop p b) (omega (arith, length-drop p b))))
-    (λ h. let e : min (length b - p) n ≡ n = omega arith in ap (λ (k : ℕ). take k (drop p b)) e)
-
 -- one byte more, and no byte more
 all_next : (m : Measured) (s : List ℕ) (i : ℕ) → i < length s → with_all m (drop i s) ≡ with_all (with_byte m (get_or s i 0)) (drop (i + 1) s)
 all_next m s i h = ap (with_all m) (drop_next s i 0 h)
-
-pub all_end : (m : Measured) (s : List ℕ) (i : ℕ) → length s ≤ i → with_all m (drop i s) ≡ m
-all_end m s i h = ap (with_all m) (drop_of_length-le s h)
 
 -- counted to a cap byte by byte is counted to it at the end
 top_again : (f : Font) (last whole edge more : ℕ) → topped_of (measured f last (min whole most + more) edge) ≡ topped_of (measured f last (whole + more) edge)
@@ -179,13 +155,3 @@ goes_on_lem m n s i h k e =
 -- the widths counted from what was counted to the cap
 same_lit : (m n e : ℕ) → min m most ≡ min n most → m ≤ most → e ≤ 3 → min (m - e) widest ≡ min (n - e) widest
 same_lit m n e h k l = omega arith
-
-pub counted_is : (m n : Measured) (whole lit : ℕ) → topped_of m ≡ topped_of n → m.whole ≤ most → Fair n
-    → whole ≡ min m.whole widest
-    → lit ≡ min (m.whole - m.edge) widest
-    → ◌≡◌ {A = Widths} (record { whole = whole; lit = lit }) (counted_of (widths_in n))
-counted_is m n whole lit e h k ew el =
-    let a : min m.whole most ≡ min n.whole most = ap (λ (x : Measured). x.whole) e in
-    let b : m.edge ≡ n.edge = ap (λ (x : Measured). x.edge) e in
-    both whole lit (min n.whole widest) (min (n.whole - n.edge) widest) (omega (arith, a, ew, h))
-    (el ∙ ap (λ (x : ℕ). min (m.whole - x) widest) b ∙ same_lit m.whole n.whole n.edge a h k.edge)

@@ -50,6 +50,3 @@ NotBelow (suc k) n = NotBelow k n × (n ≡ k → ⊥)
 pub not_below : (k n : ℕ) → NotBelow k n → k ≤ n
 not_below zero n r = omega arith
 not_below (suc k) n r = let h = not_below k n r.0 in let g = r.1 in omega (arith, g)
-
-pub last_row : (n : ℕ) → 31 ≤ n → n < 32 → n ≡ 31
-last_row n g h = omega arith

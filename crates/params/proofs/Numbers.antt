@@ -47,9 +47,6 @@ pub record Passed (b : List ℕ) (from at v : ℕ) : Type 0 where
   pub value : value_of 0 (param_of (drop from b)) ≡ value_of v (param_of (drop at b))
   pub count : from + length (param_of (drop from b)) ≡ at + length (param_of (drop at b))
 
-pub passed_none : (b : List ℕ) (from : ℕ) → Passed b from from 0
-passed_none b from = record { good = refl; value = refl; count = refl }
-
 module _ (b : List ℕ) (from at v x : ℕ) (p : Passed b from at v) (ex : x ≡ get_or b at caret) where
   -- at a caret or behind the end all is known
   pub end_good : x ≡ caret → digits (param_of (drop from b)) ≡ true

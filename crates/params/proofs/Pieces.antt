@@ -1,18 +1,15 @@
 -- A text passed in pieces: what stands in front of a piece does not count, so after each piece the text reads as if it began there.
-use Prim.Native.Nat.{ℕ, suc, ◌+◌, ◌<◌, ◌≤◌}
+use Prim.Native.Nat.{ℕ, suc, ◌+◌}
 use mathlib.Core.Path.{◌≡◌, refl, sym, ap, ◌∙◌}
 use mathlib.Core.Bool.{Bool, true, false}
 use mathlib.Core.List.{List, [], ◌∷◌}
-use mathlib.Core.Logic.{dite}
 use native.Mathlib.Omega.{arith}
-use native.Mathlib.Decide.{dec_lt}
 use borrow.Author.Tests.{eqb-true, eq-eqb, ne_eqb}
 use lib.Dec.{eqb}
 use lib.Seq.{drop-drop}
-use lib.ListN.{length, get_or, drop, drop_of_length-le}
+use lib.ListN.{get_or, drop}
 use Rattle.basis.specs.Choice.{when, ◌and◌, ◌or◌}
 use Rattle.basis.proofs.Choices.{when_true, when_false}
-use Rattle.basis.proofs.Lists.{drop_next}
 use Rattle.params.specs.Bytes.{caret, param_of, first_of, read_to}
 use Rattle.params.specs.Kinds.{ByteKind, Plain, Caret, Tilde, Column, kind_of, kind_digit, kind_is}
 use Rattle.params.specs.Text.{is_letter, may_run, wrong_of, text_of}
@@ -21,7 +18,7 @@ use Rattle.params.specs.declared.Parameter.{Parameter}
 use Rattle.refusal.specs.declared.Fault.{Fault}
 use Rattle.refusal.specs.Refusal.{fault}
 use Rattle.std.proofs.Common.{Result, Ok, Err}
-use Rattle.params.proofs.Places.{within_body, param_cons, param_first}
+use Rattle.params.proofs.Places.{param_cons, param_first}
 use Rattle.params.proofs.Texts.{text_next}
 
 and_false : (a : Bool) → a and false ≡ false
@@ -40,9 +37,6 @@ or_cases false b e f g = g e
 -- a byte of another kind is no caret
 kind_known : (j k : ByteKind) (x : ℕ) → kind_is j x ≡ true → kind_is k x ≡ eqb (kind_digit j) (kind_digit k)
 kind_known j k x e = ap (λ (n : ℕ). eqb n (kind_digit k)) (eqb-true (kind_digit (kind_of x)) (kind_digit j) e)
-
-pub kind_there : (y z n : ℕ) → n ≡ kind_digit (kind_of y) → y ≡ z → n ≡ kind_digit (kind_of z)
-kind_there y z n e h = e ∙ ap (λ (x : ℕ). kind_digit (kind_of x)) h
 
 pub kind_yes : (k : ByteKind) (x n : ℕ) → n ≡ kind_digit (kind_of x) → n ≡ kind_digit k → kind_is k x ≡ true
 kind_yes k x n e h = eq-eqb (kind_digit (kind_of x)) (kind_digit k) (sym e ∙ h)
@@ -123,16 +117,6 @@ run_text q p i (y ∷ ys) m t = go (kind_is Column y) refl (λ n u. run_text p y
         let first : kind_is Column (first_of (param_of (y ∷ ys))) and may_run q p ≡ false = ap (λ (x : ℕ). kind_is Column x and may_run q p) (param_first (y ∷ ys) 0) ∙ ap (λ (u : Bool). u and may_run q p) e in
         front_forgotten q p i (param_of (y ∷ ys)) first t ∙ ap (λ (n : ℕ). text_of 0 0 n (param_of (y ∷ ys))) place
 
--- a run of columns at a place goes on by a column, and ends at any other byte
-pub run_next : (b : List ℕ) (i : ℕ) → kind_is Column (get_or b i caret) ≡ true → run_length (drop i b) ≡ suc (run_length (drop (i + 1) b))
-run_next b i e = ap run_length (drop_next b i caret (within_body b i (not_caret Column (get_or b i caret) e (λ z. omega arith)))) ∙ when_true (kind_is Column (get_or b i caret)) _ _ e
-
-pub run_ends : (b : List ℕ) (i : ℕ) → kind_is Column (get_or b i caret) ≡ false → run_length (drop i b) ≡ 0
-run_ends b i e =
-    dite (dec_lt i (length b))
-    (λ (l : i < length b). ap run_length (drop_next b i caret l) ∙ when_false (kind_is Column (get_or b i caret)) _ _ e)
-    (λ l. let k : length b ≤ i = omega arith in ap run_length (drop_of_length-le b k))
-
 -- the bytes of a piece, by the tests that the code makes
 module _ (b : List ℕ) (i : ℕ) where
   pub piece_one : kind_is Tilde (get_or b i caret) ≡ false → piece_of b i ≡ 1
@@ -140,14 +124,6 @@ module _ (b : List ℕ) (i : ℕ) where
 
   pub piece_pair : (g : Bool) → kind_is Tilde (get_or b i caret) ≡ true → eqb (get_or b (i + 1) caret) 0x47 ≡ g → piece_of b i ≡ 2 + when g (run_length (drop (i + 2) b)) 0
   piece_pair g t e = when_true (kind_is Tilde (get_or b i caret)) _ _ t ∙ ap (λ (u : Bool). 2 + when u (run_length (drop (i + 2) b)) 0) e
-
--- the place after a piece lies further on
-pub piece_goes : (b : List ℕ) (i : ℕ) → i < i + piece_of b i
-piece_goes b i = go (kind_is Tilde (get_or b i caret))
-  where
-    go : (t : Bool) → i < i + when t (2 + when (eqb (get_or b (i + 1) caret) 0x47) (run_length (drop (i + 2) b)) 0) 1
-    go true = omega arith
-    go false = omega arith
 
 -- one piece more of a text, which begins with a byte that is no caret and nothing wrong
 module _ (b : List ℕ) (i : ℕ) (h : get_or b i caret ≡ caret → ⊥) (w : wrong_of 0 0 (get_or b i caret) (get_or b (i + 1) caret) ≡ 0) where

@@ -8,17 +8,13 @@ use borrow.Author.Tests.{eq-eqb, ne_eqb}
 use lib.Dec.{eqb}
 use lib.ListN.{get_or, drop}
 use Rattle.basis.specs.Choice.{when}
-use Rattle.params.specs.Bytes.{caret, param_of, first_of, read_to}
+use Rattle.params.specs.Bytes.{caret, param_of, first_of}
 use Rattle.params.specs.Text.{wrong_of, text_of}
 use Rattle.params.specs.Pieces.{named}
 use Rattle.refusal.specs.declared.Refusal.{Refusal}
 use Rattle.refusal.specs.Refusal.{fault, refusal_of}
-use Rattle.std.proofs.Common.{Ok, Err, Some, None}
-use Rattle.params.proofs.Places.{param_next, param_end, param_first}
-
--- at a caret or behind the end the text is whole
-pub text_end : (b : List ℕ) (q p i x : ℕ) → x ≡ get_or b i caret → x ≡ caret → Ok (read_to i 0) ≡ text_of q p i (param_of (drop i b))
-text_end b q p i x e h = sym (ap (text_of q p i) (param_end b i (sym e ∙ h)))
+use Rattle.std.proofs.Common.{Err, Some, None}
+use Rattle.params.proofs.Places.{param_next, param_first}
 
 -- one byte of a text: x, with the fault w
 module _ (b : List ℕ) (q p i x w : ℕ) (ex : x ≡ get_or b i caret) (h : x ≡ caret → ⊥) (ew : w ≡ wrong_of q p x (get_or b (i + 1) caret)) where

@@ -86,7 +86,3 @@ later_same b s f e h =
     ap (λ (x : Reckoned). x.totals) e
     ∙ pass_like b s f.settings agree
     ∙ ap (λ (x : Reckoned). (pass_of b (from_other s x.settings)).totals) e
-
--- and else what a pass from the settings behind it does
-pub later_read : (b : List ℕ) (s f g : Reckoned) → f ≡ pass_of b s → g ≡ pass_of b (from_other s f.settings) → g.totals ≡ later_of b s
-later_read b s f g e eg = ap (λ (x : Reckoned). x.totals) eg ∙ ap (λ (x : Reckoned). (pass_of b (from_other s x.settings)).totals) e

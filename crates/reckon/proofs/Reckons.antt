@@ -32,10 +32,6 @@ use Rattle.reckon.specs.declared.reckon.Reckoned.{Reckoned}
 use Rattle.totals.specs.declared.Totals.{Totals}
 use Rattle.machine.proofs.Commands.{says_is}
 
--- both widths of a text of no bytes are 0
-pub widths_none : (b : List ℕ) (p n : ℕ) → n ≡ 0 → ◌≡◌ {A = Widths} (record { whole = 0; lit = 0 }) (counted_of (widths_of (take n (drop p b))))
-widths_none b p n e = ap (λ (k : ℕ). counted_of (widths_of (take k (drop p b)))) (sym e)
-
 -- only a plain command changes the settings
 sets_by : (k : Kind) (b : List ℕ) (p : ℕ) (c : Command) (σ : Settings) → c.kind ≡ k
     → behind_of k c.number σ ≡ sets_part (part_of (role_of k) (act_of b p c)) σ
@@ -115,24 +111,6 @@ module _ (b : List ℕ) (s : Reckoned) (c : Command) (e : read_of b s.place ≡ 
         go Close q = let z : ◌≡◌ {A = ℕ} 0 1 = cc in absurd (omega arith)
         go Forever q = let z : ◌≡◌ {A = ℕ} 0 1 = cc in absurd (omega arith)
         go Again q = let z : ◌≡◌ {A = ℕ} 0 1 = cc in absurd (omega arith)
-
--- where nothing good stands a stride stops too
-pub stride_none : (b : List ℕ) (s : Reckoned) (w : Fault) → s.place < length b → read_of b s.place ≡ Err w
-    → stride_of (tokens_of b s.place) s ≡ s
-stride_none b s w within e =
-    ap (λ (ts : List Tok). stride_of ts s) (tokens_first b s.place within)
-    ∙ ap (λ (t : Tok). stride_of (chain t (λ z. tokens_of b (s.place + z))) s) (ap (tok_of b s.place) e)
-
--- at the end it ends
-pub stride_ends : (b : List ℕ) (s : Reckoned) → length b ≤ s.place → stride_of (tokens_of b s.place) s ≡ s
-stride_ends b s h = ap (λ (ts : List Tok). stride_of ts s) (tokens_none b s.place h)
-
--- one pass ends where nothing good stands
-pub pass_ends : (b : List ℕ) (s : Reckoned) (w : Fault) → read_of b s.place ≡ Err w → pass_of b s ≡ s
-pass_ends b s w e =
-    let here : stride_of (tokens_of b s.place) s ≡ s =
-    dite (dec_lt s.place (length b)) (λ h. stride_none b s w h e) (λ h. stride_ends b s (omega arith)) in
-    ap (λ (x : Reckoned). added_of (get b x.place) x) here ∙ ap (λ (t : Tok). added_of t s) (ap (tok_of b s.place) e)
 
 module _ (b : List ℕ) (s : Reckoned) (c : Command) (e : read_of b s.place ≡ Ok c) where
   -- it ends with a command of structure

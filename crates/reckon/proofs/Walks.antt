@@ -48,42 +48,6 @@ pass_close : (b : List ℕ) (s : Reckoned) → s.place < length b → get b s.pl
 pass_close b s h g =
     ap (λ (x : Reckoned). added_of (get b x.place) x) (stride_at b s close h g) ∙ ap (λ (t : Tok). added_of t s) g
 
--- a loop closed, from its parts
-pub closed_is : (b : List ℕ) (l : Open) (first : Reckoned) (σ : Settings) (before : Totals) (z m o v u : Totals) → z ≡ none_of
-    → m ≡ later_of b (record { place = l.behind; settings = σ; totals = z })
-    → o ≡ plus_of before first.totals
-    → v ≡ times_of (l.number - 1) m
-    → u ≡ plus_of o v
-    → u ≡ closed_of b l first σ before
-closed_is b l first σ before z m o v u ez em eo ev eu =
-    eu
-    ∙ ap (λ (t : Totals). plus_of t v) eo
-    ∙ ap (plus_of (plus_of before first.totals)) (ev ∙ ap (times_of (l.number - 1)) (em ∙ ap (λ (t : Totals). later_of b (record { place = l.behind; settings = σ; totals = t })) ez))
-
-role_part : (r : Role) (a : Act) → role_in (part_of r a) ≡ r
-role_part Plain a = refl
-role_part Repeat a = refl
-role_part Close a = refl
-role_part Forever a = refl
-role_part Again a = refl
-
--- a command that was read, reckoned
-pub summed_is : (b : List ℕ) (f : Flow) (s : Sums) (c : Command) → read_of b s.at.place ≡ Ok c → (h : Reckoned) (x : Sums)
-    → h ≡ added_of (get b s.at.place) s.at
-    → x ≡ taken_of b (role_of c.kind) f h s.entry s.before
-    → x ≡ summed_of b (get b s.at.place) f s
-summed_is b f s c e h x eh ex =
-    let r = role_of c.kind in
-    let part = part_of r (act_of b s.at.place c) in
-    let there : get b s.at.place ≡ good part = stands_good b s.at.place c e in
-    ex
-    ∙ ap (λ (y : Reckoned). taken_of b r f y s.entry s.before) (eh ∙ ap (λ (t : Tok). added_of t s.at) there)
-    ∙ ap (λ (q : Role). taken_of b q f (added_of (good part) s.at) s.entry s.before) (sym (role_part r (act_of b s.at.place c)))
-    ∙ ap (λ (t : Tok). summed_of b t f s) (sym there)
-
-pub summed_none : (b : List ℕ) (f : Flow) (s : Sums) (w : Fault) → read_of b s.at.place ≡ Err w → s ≡ summed_of b (get b s.at.place) f s
-summed_none b f s w e = sym (ap (λ (t : Tok). summed_of b t f s) (ap (tok_of b s.at.place) e))
-
 -- the walk goes on behind the command
 pub summed_place : (b : List ℕ) (c : Part) (f : Flow) (s : Sums) → (summed_of b (good c) f s).at.place ≡ s.at.place + size_of c
 summed_place b (act a) f s = refl

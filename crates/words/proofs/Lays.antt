@@ -72,20 +72,10 @@ next_word ws out f y i below room ef ey =
 pub told_room : (size : ℕ) (bytes answer : List ℕ) → size ≤ length answer → laid bytes answer ≡ told_in size bytes answer
 told_room size bytes answer room = sym (when_false (ltb (length answer) size) answer (laid bytes answer) (le-ltb (length answer) size room))
 
--- all of them
-pub all_words : (ws out f : List ℕ) (i : ℕ) → length ws ≤ i → length ws ≤ length out / 4 → f ≡ laid (words_of (take i ws)) out
-    → f ≡ told_in (4 * length ws) (words_of ws) out
-all_words ws out f i all room ef =
-    ef ∙ ap (λ (p : List ℕ). laid (words_of p) out) (take_all i ws all) ∙ told_room (4 * length ws) (words_of ws) out (omega arith)
-
 -- nothing told is nothing changed
 pub told_none : (size : ℕ) (o : List ℕ) → size ≤ length o → o ≡ told_in size [] o
 unfolding laid
 told_none size o room = told_room size [] o room
-
--- nothing is told without room, counted by words
-pub told_short : (n : ℕ) (bytes answer : List ℕ) → length answer / 4 < n → answer ≡ told_in (4 * n) bytes answer
-told_short n bytes answer few = sym (when_true (ltb (length answer) (4 * n)) answer (laid bytes answer) (lt-ltb (length answer) (4 * n) (omega arith)))
 
 -- what is told of x, where x is what the call answers and the answer has room for it
 pub answers : {X : Type 0} (told : X → Told) (result : Told → ℕ) (size : ℕ) (answer : List ℕ) {after : List ℕ} (x y : X) → size ≤ length answer
@@ -104,10 +94,6 @@ heard_lays last true true answer = refl
 heard_lays last true false answer = refl
 heard_lays last false true answer = refl
 heard_lays last false false answer = refl
-
--- an answer with room is not 252
-pub row_past : (size : ℕ) (answer : List ℕ) (n : ℕ) → size ≤ length answer → n ≡ first_or (answer_row size answer ∷ []) n
-row_past size answer n room = sym (when_false (ltb (length answer) size) 252 n (le-ltb (length answer) size room))
 
 -- an outcome that is no refusal is told something
 pub heard_some : (x : Outcome) → outcome_of (Ok x) ≡ 0 → ⊥

@@ -15,10 +15,11 @@ use Rattle.loops.specs.Token.{Part, act, rep, close, forever, again, Tok, good, 
 use Rattle.loops.specs.Structure.{Structure, broken, kept, structure_of, role_in, opened, moved, move_of}
 use Rattle.loops.specs.Flow.{room_of, ended_of, opens_of, turn_of, go_on}
 use Rattle.judge.specs.Verdict.{Verdict, end_of, judged, judge, commands_of, begun, front_of, judge_of}
-use Rattle.judge.specs.Standing.{inside_of, stood, stand_at, of_accepted, stand_of, with_read, placed_of, found_of}
+use Rattle.judge.specs.Standing.{inside_of, stood, stand_at, of_accepted, stand_of, with_read, placed_of, found_of, walked_of}
 use Rattle.loops.specs.declared.Open.{Open}
 use Rattle.judge.specs.declared.Standing.{Standing}
 use Rattle.judge.specs.declared.Found.{Found}
+use Rattle.judge.specs.declared.Walked.{Walked}
 use Rattle.judge.specs.declared.Ending.{Ending}
 use Rattle.loops.specs.declared.Flow.{Flow}
 use Rattle.loops.specs.declared.Flow.TheVariants.{Free, Within, Ended}
@@ -187,12 +188,6 @@ pub looked_past : (b : List ℕ) (q p k : ℕ) (f g : Flow) (s t : Option Found)
 looked_past b q p k f g s t h less e (ahead none rest) d n = ahead (n ∙ none) (sym (stand_next b q p k f g h d e) ∙ rest)
 looked_past b q p k f g s t h less e (behind past is) d n = behind (omega arith) (n ∙ is)
 
--- behind the last command nothing more is found
-pub looked_all : (b : List ℕ) (q p : ℕ) (f : Flow) (s : Option Found) → length b ≤ p → Looked b q p f s → s ≡ met b q
-looked_all b q p f s h (ahead none rest) =
-    none ∙ ap (λ (x : Option Standing). placed_of x (read_of b q)) (sym (stand_none b q p f h) ∙ rest)
-looked_all b q p f s h (behind past is) = is
-
 -- at a command of an accepted body the reading is good
 abbrev pub Reads : List ℕ → ℕ → Type 0
 Reads b q = (c : Command) × (read_of b q ≡ Ok c)
@@ -302,7 +297,20 @@ found_none b q e = go (stand_of b q) refl e
         let z : ◌≡◌ {A = ℕ} 0 1 = cc in
         absurd (omega arith)
 
+-- a walk that is refused, and one that is not, as the verdict has it
+pub walk_wrong : (v : Verdict) (f : Option Found) (w : Fault) → Err w ≡ walked_of v f → Err w ≡ v
+walk_wrong (Ok e) f w h = let z : ◌≡◌ {A = ℕ} 0 1 = cc in absurd (omega arith)
+walk_wrong (Err u) f w h = ap Err (err_one h)
+
+pub walk_right : (v : Verdict) (f : Option Found) (x : Walked) → Ok x ≡ walked_of v f → Ok x.ending ≡ v
+walk_right (Ok e) f x h = ap (λ (y : Walked). Ok y.ending) (ok_one h)
+walk_right (Err u) f x h = let z : ◌≡◌ {A = ℕ} 0 1 = cc in absurd (omega arith)
+
 -- what the walk finds of commands is what is found of an accepted body
-pub walk_found : (v : Verdict) (s : Option Standing) (r : Result Command Fault) → of_accepted v (placed_of s r) ≡ placed_of (of_accepted v s) r
-walk_found (Ok v) s r = refl
-walk_found (Err w) s r = refl
+pub walk_none : (v : Verdict) (s : Option Standing) (r : Result Command Fault) → result_ok (walked_of v (placed_of s r)) ≡ None → None ≡ placed_of (of_accepted v s) r
+walk_none (Ok e) s r h = let z : ◌≡◌ {A = ℕ} 0 1 = cc in absurd (omega arith)
+walk_none (Err w) s r h = refl
+
+pub walk_found : (v : Verdict) (s : Option Standing) (r : Result Command Fault) (x : Walked) → result_ok (walked_of v (placed_of s r)) ≡ Some x → x.found ≡ placed_of (of_accepted v s) r
+walk_found (Ok e) s r x h = sym (ap (λ (y : Walked). y.found) (some_one h))
+walk_found (Err w) s r x h = let z : ◌≡◌ {A = ℕ} 0 1 = cc in absurd (omega arith)

@@ -35,9 +35,10 @@ abbrev pub of_accepted : {A : Type 0} → Verdict → Option A → Option A
 of_accepted (Ok e) s = s
 of_accepted (Err w) s = None
 
--- a verdict, and by it the place that is looked for on the way
-abbrev pub walked_of : Verdict → Option Found → Walked
-walked_of v f = record { verdict = v; found = of_accepted v f }
+-- a verdict, and the place that is looked for on the way, which a refused body does not have
+abbrev pub walked_of : Verdict → Option Found → Result Walked Fault
+walked_of (Ok e) f = Ok (record { ending = e; found = f })
+walked_of (Err w) f = Err w
 
 -- the place q of the body b
 unfoldable pub stand_of : List ℕ → ℕ → Option Standing

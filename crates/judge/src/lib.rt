@@ -42,9 +42,9 @@ pub struct Found {
     pub command: Command,
 }
 
-// A body's commands walked: the verdict on them, and the place that was looked for, if they are accepted and one of them is there.
+// A body's commands accepted: how they go, and the place that was looked for, if one of them is there.
 #[derive(Clone, Copy)]
 struct Walked {
-    verdict: Verdict,
+    ending: Ending,
     found: Option<Found>,
 }

@@ -18,5 +18,5 @@ pub fn find(body: &[u8], place: usize) -> Option<Found>
     ensures { result ≡ found_of body.now place }
 {
     front(body).ok()?;
-    walk(body, place).found
+    walk(body, place).ok()?.found
 }

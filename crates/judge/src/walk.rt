@@ -31,33 +31,30 @@ fn placed(flow: Flow, read: Result<Command, Fault>) -> Option<Found>
     Some(Found { standing, command })
 }
 
-// Where no command is left: an unclosed `L` is 26 at that `L`, and what was found then stands nowhere.
-fn over(flow: Flow, found: Option<Found>) -> Walked
+// Where no command is left: an unclosed `L` is 26 at that `L`.
+fn over(flow: Flow, found: Option<Found>) -> Result<Walked, Fault>
     ensures { result ≡ walked_of (end_of (ended_of flow) (opens_of flow)) found }
 {
     match flow {
-        Flow::Free => Walked {
-            verdict: Ok(Ending::Finite),
+        Flow::Free => Ok(Walked {
+            ending: Ending::Finite,
             found,
-        },
-        Flow::Ended => Walked {
-            verdict: Ok(Ending::Endless),
+        }),
+        Flow::Ended => Ok(Walked {
+            ending: Ending::Endless,
             found,
-        },
-        Flow::Within(open) => Walked {
-            verdict: Err(Fault {
-                refusal: Refusal::WrongLoop,
-                place: open.caret,
-            }),
-            found: None,
-        },
+        }),
+        Flow::Within(open) => Err(Fault {
+            refusal: Refusal::WrongLoop,
+            place: open.caret,
+        }),
     }
 }
 
 // The commands of a body, from its first byte to its end, and the place among them with what is read at it. The loop steps by what
 // was read, so there is no list to go over. The walk of reckon has a loop of its own: the two have in common that a command is read,
 // judged and passed, which is three lines, and one walk for both would need a closure for what each of them keeps.
-pub(crate) fn walk(body: &[u8], place: usize) -> Walked
+pub(crate) fn walk(body: &[u8], place: usize) -> Result<Walked, Fault>
     ensures { result ≡ walked_of (commands_of body.now) (placed_of (stand_at place (tokens_of body.now 0) 1 0 false []) (read_of body.now place)) }
 {
     let mut at: usize = 0;
@@ -68,18 +65,9 @@ pub(crate) fn walk(body: &[u8], place: usize) -> Walked
         if at == place {
             found = placed(flow, read);
         }
-        match turned(read, at, flow) {
-            Err(fault) => {
-                return Walked {
-                    verdict: Err(fault),
-                    found: None,
-                };
-            }
-            Ok(turn) => {
-                at = turn.next;
-                flow = turn.flow;
-            }
-        }
+        let turn = turned(read, at, flow)?;
+        at = turn.next;
+        flow = turn.flow;
     }
     over(flow, found)
 }

@@ -12,5 +12,5 @@ pub fn judge(body: &[u8]) -> Verdict
     ensures { result ≡ judge_of body.now }
 {
     front(body)?;
-    walk(body, body.len()).verdict
+    Ok(walk(body, body.len())?.ending)
 }

@@ -3,7 +3,7 @@ ghost use Rattle.std.specs.Prelude.{◌≡◌};
 ghost use Rattle.reply.specs.Reply.{heard_from, heard_of};
 
 use crate::Status;
-use crate::letters::{busy, is_last, sink, turned_mid};
+use crate::letters::{Letters, is_last, turned_mid};
 use packet::{allowed, sum_of};
 use refusal::Refusal;
 
@@ -18,7 +18,7 @@ fn heard_from(mid: u8, bytes: &[u8]) -> Result<Status, Refusal>
     if sum_of(bytes) != 0 || from != turned_mid(mid) || !is_last(last) {
         return Err(Refusal::NoReply);
     }
-    let (Some(busy), Some(sink)) = (busy(state), sink(aux)) else {
+    let (Some(busy), Some(sink)) = (Letters::STATE.said(state), Letters::AUX.said(aux)) else {
         return Err(Refusal::NoReply);
     };
     Ok(Status { last, busy, sink })

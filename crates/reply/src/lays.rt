@@ -6,7 +6,7 @@ ghost use Rattle.packet.specs.Write.{Writes};
 ghost use Rattle.reply.specs.Reply.{reply_rows};
 
 use crate::Status;
-use crate::letters::{aux_letter, is_last, state_letter, turned_mid};
+use crate::letters::{Letters, is_last, turned_mid};
 use packet::{allowed, checksum};
 use refusal::Refusal;
 
@@ -21,8 +21,8 @@ fn lay_reply(mid: u8, status: Status, out: &mut [u8]) -> Result<usize, Refusal>
         return Err(Refusal::NoRoom);
     }
     let from = turned_mid(mid);
-    let state = state_letter(status.busy);
-    let aux = aux_letter(status.sink);
+    let state = Letters::STATE.of(status.busy);
+    let aux = Letters::AUX.of(status.sink);
     let front = [from, 0x7f, 8, status.last, state, aux];
     out[..6].copy_from_slice(&front);
     out[6] = 0;

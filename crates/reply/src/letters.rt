@@ -1,6 +1,7 @@
 // What stands in a reply: which last IDs, the MID and the two letters (W10, W11).
 ghost use Rattle.std.specs.Prelude.{◌≡◌};
-ghost use Rattle.packet.specs.Wire.{turned, state_of, aux_of};
+ghost use Rattle.basis.specs.Choice.{when};
+ghost use Rattle.packet.specs.Wire.{turned};
 ghost use Rattle.reply.specs.Reply.{is_last, said_by};
 
 // Whether a sign can have completed this ID last.
@@ -17,38 +18,43 @@ pub(crate) fn turned_mid(mid: u8) -> u8
     mid ^ 1
 }
 
-// The letter for Busy or Ready.
-pub(crate) fn state_letter(busy: bool) -> u8
-    ensures { result ≡ state_of busy }
-{
-    if busy { b'B' } else { b'R' }
+// Two letters that tell yes and no.
+#[derive(Clone, Copy)]
+pub(crate) struct Letters {
+    yes: u8,
+    no: u8,
 }
 
-// The letter for the AUX pin, sunk or floating.
-pub(crate) fn aux_letter(sink: bool) -> u8
-    ensures { result ≡ aux_of sink }
-{
-    if sink { b'S' } else { b'F' }
-}
+impl Letters {
+    // Busy or Ready.
+    pub(crate) const STATE: Letters = Letters {
+        yes: b'B',
+        no: b'R',
+    };
 
-// Whether a letter says Busy, if it is one of the two for Busy and Ready.
-pub(crate) fn busy(letter: u8) -> Option<bool>
-    ensures { result ≡ said_by 0x42 0x52 letter }
-{
-    match letter {
-        b'B' => Some(true),
-        b'R' => Some(false),
-        _ => None,
+    // The AUX pin, sunk or floating.
+    pub(crate) const AUX: Letters = Letters {
+        yes: b'S',
+        no: b'F',
+    };
+
+    // The letter that tells this.
+    pub(crate) fn of(self, flag: bool) -> u8
+        ensures { result ≡ when flag self.yes self.no }
+    {
+        if flag { self.yes } else { self.no }
     }
-}
 
-// Whether a letter says sunk, if it is one of the two for the AUX pin.
-pub(crate) fn sink(letter: u8) -> Option<bool>
-    ensures { result ≡ said_by 0x53 0x46 letter }
-{
-    match letter {
-        b'S' => Some(true),
-        b'F' => Some(false),
-        _ => None,
+    // What a letter tells, if it is one of the two.
+    pub(crate) fn said(self, letter: u8) -> Option<bool>
+        ensures { result ≡ said_by self.yes self.no letter }
+    {
+        if letter == self.yes {
+            Some(true)
+        } else if letter == self.no {
+            Some(false)
+        } else {
+            None
+        }
     }
 }

@@ -14,13 +14,13 @@ returns c =
     let a = c.args in
     let known = sym c.is_last.ensures ∙ c.if-not-is_last.false in
     reply_wrote a.mid a.status.last a.status.busy a.status.sink a.out.now _ c.turned_mid-from.result
-    c.state_letter-state.result
-    c.aux_letter-aux.result
+    c.of-state.result
+    c.of-aux.result
     c.checksum.result
     known
     (search rules)
     c.turned_mid-from.ensures
-    c.state_letter-state.ensures
-    c.aux_letter-aux.ensures
+    c.of-state.ensures
+    c.of-aux.ensures
     (ap (λ (q : List ℕ). q ++ drop 6 a.out.now) c.copy_from_slice.ensures.after)
     c.checksum.ensures

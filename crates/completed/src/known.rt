@@ -15,7 +15,7 @@ pub(crate) fn among(ids: &[u8], id: u8) -> bool
 fn more(count: u8) -> u8
     ensures { result ≡ more_of count }
 {
-    if count < 4 { count + 1 } else { 4 }
+    count.min(3) + 1
 }
 
 // No ID was completed since the reset.

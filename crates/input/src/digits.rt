@@ -6,12 +6,7 @@ ghost use Rattle.input.specs.Digits.{digit_of, pair_of};
 pub fn digit(x: u8) -> u8
     ensures { result ≡ digit_of x }
 {
-    match x {
-        b'0'..=b'9' => x - b'0',
-        b'A'..=b'F' => x - b'A' + 10,
-        b'a'..=b'f' => x - b'a' + 10,
-        _ => 0,
-    }
+    (x as char).to_digit(16).unwrap_or(0) as u8
 }
 
 // The byte that two digits write.

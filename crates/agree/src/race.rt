@@ -1,5 +1,6 @@
 // A forecast and a plain run of steps, side by side.
 use crate::make::body;
+use arrayvec::ArrayVec;
 use machine::Run;
 use perform::{Performed, Settings};
 use reckon::{Foretold, Totals};
@@ -41,13 +42,11 @@ fn ran(len: usize, room: &[u8], settings: Settings) -> Option<(Totals, u8, u8)> 
 }
 
 // Whether what was foretold of a body is what its run does.
-fn agrees(body: &[u8], pace: u8, scans: u8) -> bool {
-    let mut room = [0u8; 84];
-    for (to, x) in room.iter_mut().zip(body) {
-        *to = *x;
-    }
+fn agrees(body: &ArrayVec<u8, 84>, pace: u8, scans: u8) -> bool {
+    let mut room = [0; 84];
+    room[..body.len()].copy_from_slice(body.as_slice());
     let ran = ran(body.len(), &room, set(pace, scans));
-    match reckon::forecast(body, pace, scans) {
+    match reckon::forecast(body.as_slice(), pace, scans) {
         Ok(
             Foretold::Ends {
                 totals,
@@ -61,7 +60,7 @@ fn agrees(body: &[u8], pace: u8, scans: u8) -> bool {
 
 // Whether the body made from a number runs as it was foretold, at a pace and scans made from it too.
 fn one(i: u32) -> bool {
-    agrees(body(i).as_slice(), (i % 20 + 1) as u8, (i % 6 + 1) as u8)
+    agrees(&body(i), (i % 20 + 1) as u8, (i % 6 + 1) as u8)
 }
 
 // How many of 400 bodies run as they were foretold.

@@ -35,6 +35,7 @@ fn write_data(part: &[u8], out: &mut [u8]) -> u8
     ensures value { result ≡ sum part.now % 256 }
 {
     let mut total: u8 = 0;
+    // By places, as after `out.iter_mut().zip(part)` a proof knows the buffer's length alone, and none of its bytes.
     for (i, &x) in part.iter().enumerate() {
         out[i] = x;
         total = total.wrapping_add(x);

@@ -20,6 +20,7 @@ pub(crate) fn lay(words: &[u64], out: &mut [u8])
     if out.len() / 4 < words.len() {
         return;
     }
+    // By places, as after `out.chunks_exact_mut(4).zip(words)` a proof knows the buffer's length alone, and none of its bytes.
     for (i, word) in words.iter().enumerate() {
         let at = 4 * i;
         put(*word, &mut out[at..]);

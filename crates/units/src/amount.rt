@@ -1,5 +1,4 @@
-// What all four units share: a sum and some times over (S14), each within one unit. A sum or a product past 64 bits stays at the
-// greatest number instead of wrapping, so that every call answers.
+// What all four units share: a sum and some times over (S14), each within one unit.
 ghost use Rattle.std.specs.Prelude.{◌≡◌, ℕ};
 ghost use Rattle.units.specs.Units.{sum_of, times_of};
 

@@ -1,7 +1,8 @@
 #![tactic(auto)]
 
 // Steps, shifts, scans and milliseconds (S14): one tuple struct a unit, with its own sum and its own conversion to the
-// next (P11). A sum or a product past 64 bits stays at the greatest number.
+// next (P11). A sum or a product past 64 bits stays at the greatest number instead of wrapping, so that every call answers.
+// Each unit has its own `impl`s, here and in `print`, as the gate refuses those that a macro of this repository writes.
 //   amount   what the four share: a sum and some times over, each within one unit
 //   print    how each prints
 ghost use Rattle.std.specs.Prelude.{◌≡◌, ◌*◌};
@@ -24,7 +25,6 @@ pub struct Scans(pub u64);
 #[derive(Clone, Copy, PartialEq)]
 pub struct Millis(pub u64);
 
-// Each unit has its own `impl`, as the gate refuses those that a macro of this repository writes.
 impl Amount for Steps {
     ghost count = { λ steps. steps.0 };
 

@@ -1,4 +1,4 @@
-// How units print: their number alone. Each has its own `impl`, as the gate refuses those that a macro of this repository writes.
+// How units print: their number alone.
 ghost use Rattle.std.specs.Prelude.{Some, decimal};
 
 use crate::{Millis, Scans, Shifts, Steps};

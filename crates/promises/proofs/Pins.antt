@@ -88,7 +88,7 @@ range_sound pace each e =
     let both = and_parts (within 1 pace 20) (within 1 each 6) (turned (within 1 pace 20 and within 1 each 6) e) in
     let p = within_parts 1 pace 20 both.0 in
     let q = within_parts 1 each 6 both.1 in
-    settings_sound_lem [] pace each p.0 p.1 q.0 q.1
+    settings_sound_lem pace each p.0 p.1 q.0 q.1
   where
     turned : (t : Bool) → not t ≡ false → t ≡ true
     turned true h = refl

@@ -39,7 +39,7 @@ module _ (b : List ℕ) (σ : Settings) (set : settings_sound σ ≡ true) where
   forecast_holds e =
       let r = ranged σ set in
       let τ = settings_at σ.pace σ.scans in
-      let sound = settings_sound_lem b σ.pace σ.scans r.pace_least r.pace_most r.scans_least r.scans_most in
+      let sound = settings_sound_lem σ.pace σ.scans r.pace_least r.pace_most r.scans_least r.scans_most in
       let t = (tree_in b).block in
       let x = finite_ends b e σ in
       let same : (f : Performed → ℕ) → Cares f → price_of f t τ ≡ sum_by f (unrolled t σ) =
@@ -51,7 +51,7 @@ module _ (b : List ℕ) (σ : Settings) (set : settings_sound σ ≡ true) where
       totals_are _ _ _ _ _ _ steps (uncapped (price_of scans t τ) (scans_fit b e τ sound) ∙ same scans scans_care)
       (uncapped (price_of millis t τ) (millis_fit b e τ sound) ∙ same millis millis_care) in
       let left = exit_like t τ σ (refl, refl) in
-      in_range b σ.pace σ.scans r.pace_least r.pace_most r.scans_least r.scans_most (Ok Finite) e
+      in_range b σ.pace σ.scans sound (Ok Finite) e
       ∙ ap (by_verdict (Ok Finite) _) (sym (exit_settled b e τ sound))
       ∙ ap (λ (u : Totals). Ok (Ends u (exit_of t τ).pace (exit_of t τ).scans)) (sym (tallies_price b e τ sound) ∙ sums)
       ∙ ap (λ (n : ℕ). Ok (Ends whole n (exit_of t τ).scans)) left.0
@@ -60,4 +60,5 @@ module _ (b : List ℕ) (σ : Settings) (set : settings_sound σ ≡ true) where
   pub forecast_never : judge_of b ≡ Ok Endless → forecast_of b σ.pace σ.scans ≡ Ok Never
   forecast_never e =
       let r = ranged σ set in
-      in_range b σ.pace σ.scans r.pace_least r.pace_most r.scans_least r.scans_most (Ok Endless) e
+      let sound = settings_sound_lem σ.pace σ.scans r.pace_least r.pace_most r.scans_least r.scans_most in
+      in_range b σ.pace σ.scans sound (Ok Endless) e

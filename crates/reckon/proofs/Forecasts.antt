@@ -2,13 +2,14 @@
 -- the settings behind its block.
 use Prim.Native.Nat.{ℕ, zero, suc, ◌+◌, ◌≤◌, ◌<◌}
 use mathlib.Core.List.{List, [], ◌∷◌}
-use mathlib.Core.Bool.{true, false, not}
+use mathlib.Core.Bool.{Bool, true, false, not}
 use mathlib.Core.Path.{◌≡◌, refl, sym, ap, ◌∙◌}
 use native.Mathlib.Omega.{arith}
 use lib.Dec.{eqb}
 use lib.ListN.{length}
 use borrow.Author.Tests.{eq-eqb, ne_eqb}
-use Rattle.basis.proofs.Choices.{when_true, when_false, and_true, within_true}
+use Rattle.basis.specs.Choice.{◌and◌, within}
+use Rattle.basis.proofs.Choices.{when_true, when_false}
 use Rattle.std.specs.Prelude.{Result, Ok, Option, Some}
 use Rattle.refusal.specs.declared.Refusal.{Refusal}
 use Rattle.units.specs.Units.{capped}
@@ -86,19 +87,32 @@ exit_settled b e σ set =
     (left_is most_steps (length (line_of b σ)) (room_of b) (started_of (length b) σ) l.most l.busy_before (ap (λ (r : Run). r.len) l.ready_then)
     ∙ ap (λ (r : Run). r.settings) l.ready_then)
 
-module _ (b : List ℕ) (pace each : ℕ) (h1 : 1 ≤ pace) (h2 : pace ≤ 20) (h3 : 1 ≤ each) (h4 : each ≤ 6) where
-  ranged : out_of_range pace each ≡ false
-  ranged = ap not (and_true _ _ (within_true 1 pace 20 h1 h2) (within_true 1 each 6 h3 h4))
+-- the caller's two settings decide whether all five are sound
+settings_test : (pace each : ℕ) → settings_sound (settings_at pace each) ≡ within 1 pace 20 and within 1 each 6
+unfolding settings_sound
+settings_test pace each = go (within 1 pace 20) (within 1 each 6)
+  where
+    go : (s t : Bool) → s and t and true ≡ s and t
+    go true true = refl
+    go true false = refl
+    go false t = refl
 
-  -- a pace and scans in range leave the answer to the body
-  pub in_range : (v : Verdict) → judge_of b ≡ v
+module _ (b : List ℕ) (pace each : ℕ) where
+  -- a pace or scans out of range are refused
+  pub out_refused : settings_sound (settings_at pace each) ≡ false → forecast_of b pace each ≡ Err (fault 17 0)
+  unfolding forecast_of
+  out_refused e =
+      when_true (out_of_range pace each) (Err (fault 17 0)) _ (ap not (sym (settings_test pace each) ∙ e))
+
+  -- in range they leave the answer to the body
+  pub in_range : settings_sound (settings_at pace each) ≡ true → (v : Verdict) → judge_of b ≡ v
       → forecast_of b pace each
       ≡ by_verdict v (tallies_of (room_of b) (started_of (length b) (settings_at pace each))) (settled_of (room_of b) (started_of (length b) (settings_at pace each)))
   unfolding forecast_of
-  in_range v e =
+  in_range set v e =
       let r = started_of (length b) (settings_at pace each) in
-      when_false (out_of_range pace each) (Err (fault 17 0)) (by_verdict (judge_of b) (tallies_of (room_of b) r) (settled_of (room_of b) r)) ranged
+      when_false (out_of_range pace each) (Err (fault 17 0)) (by_verdict (judge_of b) (tallies_of (room_of b) r) (settled_of (room_of b) r)) (ap not (sym (settings_test pace each) ∙ set))
       ∙ ap (λ (x : Verdict). by_verdict x (tallies_of (room_of b) r) (settled_of (room_of b) r)) e
 
-  pub settings_sound_lem : settings_sound (settings_at pace each) ≡ true
-  settings_sound_lem = sounds pace each 0 16 0 h1 h2 h3 h4 (omega arith) (omega arith, omega arith) refl
+pub settings_sound_lem : (pace each : ℕ) → 1 ≤ pace → pace ≤ 20 → 1 ≤ each → each ≤ 6 → settings_sound (settings_at pace each) ≡ true
+settings_sound_lem pace each h1 h2 h3 h4 = sounds pace each 0 16 0 h1 h2 h3 h4 (omega arith) (omega arith, omega arith) refl

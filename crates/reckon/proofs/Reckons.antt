@@ -1,21 +1,18 @@
 -- The reckoning's code, command by command: what is added, and where a pass stops, goes on and ends.
-use Prim.Native.Nat.{ℕ, ◌+◌, ◌≤◌, ◌<◌}
+use Prim.Native.Nat.{ℕ, ◌+◌, ◌<◌}
 use mathlib.Core.List.{List}
 use mathlib.Core.Bool.{true, false}
 use mathlib.Core.Path.{◌≡◌, refl, sym, ap, ◌∙◌}
-use mathlib.Core.Logic.{dite}
-use native.Mathlib.Decide.{dec_lt}
 use native.Mathlib.Omega.{arith}
 use lib.ListN.{length, take, drop}
-use Rattle.measure.specs.Width.{widths_of, counted_of}
+use Rattle.measure.specs.Width.{widths_of}
 use Rattle.measure.specs.declared.width.Widths.{Widths}
 use Rattle.program.specs.Command.{read_of}
 use Rattle.program.proofs.Laws.{starts_within}
 use Rattle.program.specs.declared.Kind.{Kind}
 use Rattle.program.specs.declared.Kind.TheVariants.{II, IA, IB, S, L, E, F, R, XS, XF, P, Scans, W, XD, XB, Y}
 use Rattle.program.specs.declared.Command.{Command}
-use Rattle.refusal.specs.declared.Fault.{Fault}
-use Rattle.std.proofs.Common.{Ok, Err}
+use Rattle.std.proofs.Common.{Ok}
 use Rattle.perform.specs.Price.{answer_of}
 use Rattle.perform.specs.Settings.{behind_of}
 use Rattle.perform.specs.declared.settings.Settings.{Settings}
@@ -24,7 +21,7 @@ use Rattle.loops.specs.Token.{role_of, Tok, good, size_of, part_of, act_of, tok_
 use Rattle.loops.specs.declared.Role.{Role}
 use Rattle.loops.specs.declared.Role.TheVariants.{Plain, Repeat, Close, Forever, Again}
 use Rattle.loops.proofs.Moves.{next_is}
-use Rattle.loops.proofs.Tokens.{tokens_first, tokens_none}
+use Rattle.loops.proofs.Tokens.{tokens_first}
 use Rattle.course.specs.Steps.{says_of}
 use Rattle.reckon.specs.Reckon.{sets_part, added_of, plain_of, stride_of, pass_of}
 use Rattle.totals.specs.Totals.{cost_of, plus_of}

@@ -1,19 +1,15 @@
 -- The walk that judges and reckons at once: each command keeps the first pass of an open loop in step with the loop, and what is left
 -- in step with the whole.
-use Prim.Native.Nat.{ℕ, ◌+◌, ◌-◌, ◌≤◌, ◌<◌}
+use Prim.Native.Nat.{ℕ, ◌+◌, ◌≤◌, ◌<◌}
 use mathlib.Core.List.{List}
 use mathlib.Core.Path.{◌≡◌, refl, sym, ap, ◌∙◌, subst}
 use native.Mathlib.Omega.{arith}
 use lib.ListN.{length}
-use Rattle.program.specs.Command.{read_of}
-use Rattle.program.specs.declared.Command.{Command}
 use Rattle.perform.specs.declared.settings.Settings.{Settings}
-use Rattle.loops.specs.Token.{role_of, Act, Part, act, rep, close, forever, again, Tok, good, bad, size_of, part_of, act_of, tok_of, get, tokens_of}
-use Rattle.loops.specs.Structure.{role_in, opened}
+use Rattle.loops.specs.Token.{Part, act, rep, close, forever, again, Tok, good, bad, size_of, get, tokens_of}
+use Rattle.loops.specs.Structure.{opened}
 use Rattle.loops.specs.Flow.{ended_of, opens_of, go_on}
 use Rattle.judge.specs.Verdict.{Verdict, end_of, commands_of, judge_of}
-use Rattle.loops.specs.declared.Role.{Role}
-use Rattle.loops.specs.declared.Role.TheVariants.{Plain, Repeat, Close, Forever, Again}
 use Rattle.loops.specs.declared.Open.{Open}
 use Rattle.loops.specs.declared.Flow.{Flow}
 use Rattle.loops.specs.declared.Flow.TheVariants.{Free, Within, Ended}
@@ -23,14 +19,13 @@ use Rattle.std.proofs.Common.{Ok, Err, Result}
 use Rattle.judge.proofs.Turns.{from, turn_at, next_place, on_next, on_end}
 use Rattle.refusal.proofs.Names.{ok_one}
 use Rattle.loops.proofs.Values.{get_loop}
-use Rattle.totals.specs.Totals.{none_of, plus_of, times_of}
+use Rattle.totals.specs.Totals.{none_of}
 use Rattle.totals.specs.declared.Totals.{Totals}
 use Rattle.course.specs.Tree.{exit_of, tree_in}
 use Rattle.reckon.specs.Forecast.{prices_of, by_verdict, foretold_of}
-use Rattle.reckon.specs.Reckon.{added_of, pass_of, later_of, entry_of, closed_of, taken_of, summed_of, Counts, Passing}
+use Rattle.reckon.specs.Reckon.{added_of, pass_of, entry_of, closed_of, summed_of, Counts, Passing}
 use Rattle.reckon.specs.declared.reckon.Reckoned.{Reckoned}
 use Rattle.reckon.specs.declared.walk.Sums.{Sums}
-use Rattle.reckon.proofs.Reckons.{stands_good}
 use Rattle.reckon.proofs.Wholes.{stride_at, looped_of, turn_of, Left, turn_keeps, left_none, left_all}
 use Rattle.loops.specs.declared.Turn.{Turn}
 

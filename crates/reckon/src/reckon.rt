@@ -92,13 +92,6 @@ pub enum Foretold {
 pub fn forecast(body: &[u8], pace: u8, scans: u8) -> Result<Foretold, Fault>
     ensures { result ≡ forecast_of body.now pace scans }
 {
-    if pace < 1 || 20 < pace || scans < 1 || 6 < scans {
-        return Err(Fault {
-            refusal: Refusal::WrongStart,
-            place: 0,
-        });
-    }
-    front(body)?;
     let settings = Settings {
         pace,
         scans,
@@ -106,5 +99,12 @@ pub fn forecast(body: &[u8], pace: u8, scans: u8) -> Result<Foretold, Fault>
         dim: 16,
         bright: 0,
     };
+    if !settings.sound() {
+        return Err(Fault {
+            refusal: Refusal::WrongStart,
+            place: 0,
+        });
+    }
+    front(body)?;
     walk(&Body::new(body), settings)
 }

@@ -15,7 +15,7 @@ use refusal::Refusal;
 
 // The open loop: the place behind its `L` and the count left, both 0 outside loops.
 // No `Option`: a record is bytes, and `sound_of` and `image_again` (image) speak of records with any of these bytes.
-#[derive(Clone, Copy)]
+#[derive(Clone, Copy, PartialEq)]
 pub struct Loop {
     pub place: usize,
     pub left: u8,

@@ -10,7 +10,7 @@ use room::clean;
 pub(crate) fn rests(place: usize, inner: Loop) -> bool
     ensures { result ≡ rests_of place inner }
 {
-    place == 0 && inner.place == 0 && inner.left == 0
+    place == 0 && inner == Loop::none()
 }
 
 // Whether the open loop is the one that the place stands in.
@@ -18,7 +18,7 @@ pub(crate) fn held(standing: Standing, inner: Loop) -> bool
     ensures { result ≡ held_of (Some standing) inner }
 {
     match standing {
-        Standing::Outside => inner.place == 0 && inner.left == 0,
+        Standing::Outside => inner == Loop::none(),
         Standing::Inside(behind, number) => {
             inner.place == behind && (1..=number).contains(&(inner.left as usize))
         }

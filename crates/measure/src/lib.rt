@@ -7,4 +7,4 @@
 mod fonts;
 mod width;
 
-pub use width::{Widths, fits, measure, measure_at, start_column};
+pub use width::{COLUMNS, Widths, fits, measure, measure_at, start_column};

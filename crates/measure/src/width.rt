@@ -7,7 +7,7 @@ use crate::fonts::Font;
 use params::TILDE;
 
 // The columns of the sign.
-const COLUMNS: usize = 96;
+pub const COLUMNS: usize = 96;
 
 // Where counting a width stops.
 const WIDEST: usize = 1000;

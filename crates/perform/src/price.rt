@@ -4,7 +4,7 @@ ghost use Rattle.measure.specs.Width.{widths_of, counted_of};
 ghost use Rattle.perform.specs.Price.{doing_of, streams_of, acts_of, shifts_of, scans_of, millis_of, column_of, shown_of, answer_of, answer_at};
 
 use crate::Settings;
-use measure::{Widths, fits, measure_at, start_column};
+use measure::{COLUMNS, Widths, fits, measure_at, start_column};
 use program::{Command, Kind};
 use units::{Amount, Millis, Scans, Shifts};
 
@@ -46,7 +46,7 @@ fn does(kind: Kind) -> Doing
 fn shifts(widths: Widths) -> Shifts
     ensures { result.0 ≡ shifts_of widths }
 {
-    Shifts(widths.whole as u64).add(Shifts(96))
+    Shifts(widths.whole as u64).add(Shifts(COLUMNS as u64))
 }
 
 // A text of these widths streamed; where nothing is shown, nothing is done.

@@ -131,28 +131,28 @@ module _ (b : List ℕ) (s : Sums) (k : ℕ) where
         subst (λ (y : Flow). Kept b whole last y (summed_of b (good again) Free s)) same refl
     kept_next (good again) (Within m) g h u e i j = let z : ◌≡◌ {A = ℕ} 0 1 = cc in absurd (omega arith)
 
--- a round of the walk: where it stands, the verdict, the first pass of an open loop, and what is left
-abbrev pub Stands : List ℕ → Totals → Settings → ℕ → Flow → Sums → Type 0
-Stands b whole last p f s =
-    (p ≡ s.at.place) × ((from (tokens_of b p) p f ≡ commands_of b) × (Passing b f s × (judge_of b ≡ Ok Finite → Kept b whole last f s)))
+-- a round of the walk: the verdict from here on, the first pass of an open loop, and what is left
+abbrev pub Stands : List ℕ → Totals → Settings → Flow → Sums → Type 0
+Stands b whole last f s =
+    (from (tokens_of b s.at.place) s.at.place f ≡ commands_of b) × (Passing b f s × (judge_of b ≡ Ok Finite → Kept b whole last f s))
 
-pub stands_next : (b : List ℕ) (whole : Totals) (last : Settings) (p k : ℕ) (f g : Flow) (s x : Sums) → p < length b → turn_at (get b p) p f ≡ Ok (go_on k g)
+-- the next round, which begins at the place that judging goes on from
+pub stands_next : (b : List ℕ) (whole : Totals) (last : Settings) (k : ℕ) (f g : Flow) (s x : Sums) → s.at.place < length b
+    → turn_at (get b s.at.place) s.at.place f ≡ Ok (go_on k g)
     → x ≡ summed_of b (get b s.at.place) f s
-    → Stands b whole last p f s
-    → Stands b whole last k g x
-stands_next b whole last p k f g s x h e ex i =
+    → Stands b whole last f s
+    → (k ≡ x.at.place) × Stands b whole last g x
+stands_next b whole last k f g s x h e ex i =
     let q = s.at.place in
-    let there : turn_at (get b q) q f ≡ Ok (go_on k g) = subst (λ (y : ℕ). turn_at (get b y) y f ≡ Ok (go_on k g)) i.0 e in
-    let within : q < length b = subst (λ (y : ℕ). y < length b) i.0 h in
-    let n = next_place (get b q) q k f g there in
-    let place : k ≡ (summed_of b (get b q) f s).at.place =
-    n.2 ∙ sym (summed_place b n.0 f s) ∙ ap (λ (t : Tok). (summed_of b t f s).at.place) (sym n.1) in (
-      place ∙ ap (λ (y : Sums). y.at.place) (sym ex),
+    let n = next_place (get b q) q k f g e in
+    let place : k ≡ x.at.place =
+    n.2 ∙ sym (summed_place b n.0 f s) ∙ ap (λ (t : Tok). (summed_of b t f s).at.place) (sym n.1) ∙ ap (λ (y : Sums). y.at.place) (sym ex) in (
+      place,
       (
-        sym (on_next b p k f g h e) ∙ i.1.0,
+        subst (λ (y : ℕ). from (tokens_of b y) y g ≡ commands_of b) place (sym (on_next b q k f g h e) ∙ i.0),
         (
-          subst (Passing b g) (sym ex) (passing_next b s k (get b q) f g within refl there i.1.1.0),
-          λ v. subst (Kept b whole last g) (sym ex) (kept_next b s k whole last (get b q) f g within refl there i.1.1.0 (i.1.1.1 v)),
+          subst (Passing b g) (sym ex) (passing_next b s k (get b q) f g h refl e i.1.0),
+          λ v. subst (Kept b whole last g) (sym ex) (kept_next b s k whole last (get b q) f g h refl e i.1.0 (i.1.1 v)),
         ),
       ),
     )
@@ -171,25 +171,21 @@ kept_whole b whole last (Within l) s h e i = let z : ◌≡◌ {A = ℕ} 0 1 = c
 kept_whole b whole last Ended s h e i = let z : ◌≡◌ {A = ℕ} 0 1 = cc in absurd (omega arith)
 
 -- at the end the whole is told, and the last settings
-pub stands_end : (b : List ℕ) (whole : Totals) (last : Settings) (p : ℕ) (f : Flow) (s : Sums) → length b ≤ p → judge_of b ≡ commands_of b
-    → Stands b whole last p f s
+pub stands_end : (b : List ℕ) (whole : Totals) (last : Settings) (f : Flow) (s : Sums) → length b ≤ s.at.place → judge_of b ≡ commands_of b
+    → Stands b whole last f s
     → foretold_of f s.at.totals s.at.settings ≡ by_verdict (judge_of b) whole last
-stands_end b whole last p f s h j i =
-    let end : end_of (ended_of f) (opens_of f) ≡ judge_of b = sym (on_end b p f h) ∙ i.1.0 ∙ sym j in
-    let past : length b ≤ s.at.place = subst (λ (y : ℕ). length b ≤ y) i.0 h in
+stands_end b whole last f s h j i =
+    let end : end_of (ended_of f) (opens_of f) ≡ judge_of b = sym (on_end b s.at.place f h) ∙ i.0 ∙ sym j in
     ap (λ (v : Verdict). by_verdict v s.at.totals s.at.settings) end
-    ∙ told_same (judge_of b) s.at.totals whole s.at.settings last (λ v. kept_whole b whole last f s past (end ∙ v) (i.1.1.1 v))
+    ∙ told_same (judge_of b) s.at.totals whole s.at.settings last (λ v. kept_whole b whole last f s h (end ∙ v) (i.1.1 v))
 
 pub stands_first : (b : List ℕ) (σ : Settings) (z w : Totals) → z ≡ none_of
-    → Stands b (prices_of (tree_in b).block σ) (exit_of (tree_in b).block σ) 0 Free
+    → Stands b (prices_of (tree_in b).block σ) (exit_of (tree_in b).block σ) Free
     (record { at = record { place = 0; settings = σ; totals = z }; entry = σ; before = w })
 stands_first b σ z w e = (
   refl,
   (
-    refl,
-    (
-      λ l u. let y : ◌≡◌ {A = ℕ} 0 1 = cc in absurd (omega arith),
-      λ v. subst (λ (t : Totals). Left b (prices_of (tree_in b).block σ) (exit_of (tree_in b).block σ) (record { place = 0; settings = σ; totals = t })) (sym e) (left_all b σ v),
-    ),
+    λ l u. let y : ◌≡◌ {A = ℕ} 0 1 = cc in absurd (omega arith),
+    λ v. subst (λ (t : Totals). Left b (prices_of (tree_in b).block σ) (exit_of (tree_in b).block σ) (record { place = 0; settings = σ; totals = t })) (sym e) (left_all b σ v),
   ),
 )

@@ -114,7 +114,6 @@ pub(crate) fn walk(body: &Body<'_>, settings: Settings) -> Result<Foretold, Faul
     requires { front_of body.now ≡ begun }
     ensures { result ≡ walked_of body.now settings }
 {
-    let mut place: usize = 0;
     let mut flow = Flow::Free;
     let mut sums = Sums {
         at: Reckoned {
@@ -126,11 +125,10 @@ pub(crate) fn walk(body: &Body<'_>, settings: Settings) -> Result<Foretold, Faul
         before: Totals::none(),
     };
     // Each round steps by what was read, so there is no list to go over.
-    while place < body.bytes.len() {
-        let read = read_command(body.bytes, place);
-        let turn = turned(read, place, flow)?;
+    while sums.at.place < body.bytes.len() {
+        let read = read_command(body.bytes, sums.at.place);
+        let turn = turned(read, sums.at.place, flow)?;
         sums = summed(body, read, flow, sums);
-        place = turn.next;
         flow = turn.flow;
     }
     told(flow, sums)

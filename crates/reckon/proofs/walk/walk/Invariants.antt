@@ -6,8 +6,8 @@ use Rattle.reckon.specs.Forecast.{prices_of}
 use Rattle.reckon.proofs.Walks.{Stands}
 use Rattle.reckon.proofs.walk.walk.Given as goal
 
-abbrev pub invariant-loop-place : goal.invariant-loop-place
-invariant-loop-place l = Stands l.body (prices_of (tree_in l.body).block l.initial.sums.entry) (exit_of (tree_in l.body).block l.initial.sums.entry) l.place l.flow l.sums
+abbrev pub invariant-loop-sums : goal.invariant-loop-sums
+invariant-loop-sums l = Stands l.body (prices_of (tree_in l.body).block l.initial.sums.entry) (exit_of (tree_in l.body).block l.initial.sums.entry) l.flow l.sums
 
-abbrev pub decreases-loop-place : goal.decreases-loop-place
-decreases-loop-place l = length l.body - l.place
+abbrev pub decreases-loop-sums : goal.decreases-loop-sums
+decreases-loop-sums l = length l.body - l.sums.at.place

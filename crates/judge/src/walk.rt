@@ -53,7 +53,8 @@ fn over(flow: Flow, found: Option<Found>) -> Result<Walked, Fault>
 
 // The commands of a body, from its first byte to its end, and the place among them with what is read at it. The loop steps by what
 // was read, so there is no list to go over. The walk of reckon has a loop of its own: the two have in common that a command is read,
-// judged and passed, which is three lines, and one walk for both would need a closure for what each of them keeps.
+// judged and passed, which is three lines. One walk with a closure was tried in reckon, where "it is not
+// proved that what `summed` requires holds at this call", whatever the closure has kept.
 pub(crate) fn walk(body: &[u8], place: usize) -> Result<Walked, Fault>
     ensures { result ≡ walked_of (commands_of body.now) (placed_of (stand_at place (tokens_of body.now 0) 1 0 false []) (read_of body.now place)) }
 {

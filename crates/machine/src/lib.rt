@@ -32,7 +32,7 @@ pub struct Run {
 }
 
 // A step's answer with the run after it: the command performed, none where the run is Ready, or the refusal.
-// `sign::Stepped` is a type of its own: one generic type for both would be called by its parameters at each use.
+// `sign::Stepped` is a type of its own: the definition `step_of` of each crate names its field, `run` here and `sign` there.
 #[derive(Clone, Copy)]
 pub struct Stepped {
     pub run: Run,

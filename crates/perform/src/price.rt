@@ -149,8 +149,8 @@ pub fn perform(command: Command, widths: Widths, settings: Settings) -> Performe
     }
 }
 
-// A command of a body performed at these settings: its text is measured where it stands. Without the hint it is a call where a
-// forecast goes over the commands, which costs half as much again.
+// A command of a body performed at these settings: its text is measured where it stands. Without the hint forecasting costs half as
+// much again.
 #[inline(always)]
 pub fn perform_at(body: &[u8], command: Command, settings: Settings) -> Performed
     ensures { result ≡ answer_at body.now command settings }

@@ -5,7 +5,8 @@ ghost use Rattle.perform.specs.Settings.{sound_of, behind_of, forced_of};
 use program::Kind;
 
 // Pace, scans per shift, AUX drive (1: sink, 0: float), dim threshold, forced brightness (0: not forced).
-// `bright` is no `Option`: a record is bytes, and `sound_of` and `image_again` (image) speak of records with any byte here.
+// `sink` is no `bool` and `bright` no `Option`: a record is bytes, and `sound_of` and `image_again` (image) speak of records with any byte
+// in either.
 #[derive(Clone, Copy)]
 pub struct Settings {
     pub pace: u8,

@@ -7,7 +7,7 @@ use perform::{Performed, Settings, perform_at};
 use program::Command;
 use std::marker::Model;
 
-// A clause sees its bytes.
+// In a clause a body is the list of its bytes.
 #[derive(Drop)]
 pub(crate) struct Body<'a> {
     pub(crate) bytes: &'a [u8],

@@ -81,6 +81,7 @@ pub(crate) fn later(body: &Body<'_>, start: Reckoned, first: Reckoned) -> Totals
 }
 
 // What is told of a program beforehand: the totals until it is Ready, and the pace and the scans that it leaves; or that it never is.
+// No `Option`: a `None` would not say that the program never ends.
 #[derive(Clone, Copy)]
 pub enum Foretold {
     Ends { totals: Totals, pace: u8, scans: u8 },

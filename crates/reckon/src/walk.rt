@@ -25,6 +25,9 @@ pub struct Sums {
     pub before: Totals,
 }
 
+// `closed`, `closes` and `taken` share a premise. A struct with it as its invariant could be made at an `E` alone, so `taken` would keep
+// the premise, and the other two would take the struct apart.
+
 // A loop closed behind its first pass: the totals before it, that pass, and what each later one costs.
 fn closed(body: &Body<'_>, outer: Open, sums: Sums) -> Totals
     requires { Passed body.now (Within outer) sums.at sums.entry }
@@ -109,7 +112,8 @@ fn told(flow: Flow, sums: Sums) -> Result<Foretold, Fault>
     }
 }
 
-// What is told of a body's commands, started at these settings. The walk of judge has the same three lines and keeps other things.
+// What is told of a body's commands, started at these settings. The walk of judge has the same three lines. One walk that lends each
+// command to a closure was tried: of any state of the closure "it is not proved that what `summed` requires holds at this call".
 pub(crate) fn walk(body: &Body<'_>, settings: Settings) -> Result<Foretold, Fault>
     requires { front_of body.now ≡ begun }
     ensures { result ≡ walked_of body.now settings }

@@ -100,7 +100,7 @@ impl Run {
     }
 
     // One step, with the body at the front of this room: the next run with the answer; 16 for an unsound run. The command is read as
-    // soundness is tested, and not again.
+    // soundness is tested, and not again. `sound` makes the same tests: with one function for both a step costs up to 5 % more.
     pub fn step(self, room: &[u8]) -> Stepped
         ensures { result ≡ step_of room.now self }
     {

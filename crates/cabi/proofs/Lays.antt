@@ -1,26 +1,26 @@
 -- The calls' outcomes from those of the calls below: a sign in an image, and what is told of it.
-use Prim.Native.Nat.{ℕ, ◌≤◌, ◌<◌}
+use Prim.Native.Nat.{ℕ, ◌≤◌}
 use mathlib.Core.Bool.{Bool, true, false, not}
 use mathlib.Core.List.{List, [], ◌∷◌}
 use mathlib.Core.Path.{◌≡◌, refl, sym, ap, ◌∙◌, subst}
 use native.Mathlib.Omega.{arith}
 use lib.Dec.{eqb, ltb}
 use lib.ListN.{length}
-use borrow.Author.Tests.{eq-eqb, ne_eqb, eqb-true, eqb-false, lt-ltb, le-ltb}
+use borrow.Author.Tests.{eq-eqb, ne_eqb, eqb-true, eqb-false, le-ltb}
 use Rattle.basis.specs.Bytes.{laid}
 use Rattle.basis.specs.Choice.{when}
-use Rattle.basis.specs.Rows.{Row, first_of}
+use Rattle.basis.specs.Rows.{Row}
 use Rattle.basis.specs.Told.{Told}
 use Rattle.basis.proofs.Choices.{when_true, when_false}
 use Rattle.packet.specs.Mid.{is_forbidden, mid_row}
-use Rattle.packet.specs.Write.{Writes, buffer_of, written_of}
+use Rattle.packet.specs.Write.{Writes}
 use Rattle.packet.proofs.Numbers.{rows_told}
-use Rattle.std.specs.Prelude.{Result, Ok, Err, Option}
+use Rattle.std.specs.Prelude.{Result, Ok, Err, Option, Some, None}
 use Rattle.perform.specs.declared.price.Performed.{Performed}
 use Rattle.refusal.specs.declared.Refusal.{Refusal}
 use Rattle.refusal.specs.declared.Refusal.TheVariants.{Unsound}
 use Rattle.refusal.specs.Refusal.{AllNamed, number_of, told_by}
-use Rattle.refusal.proofs.Names.{number_some}
+use Rattle.refusal.proofs.Names.{number_some, some_one}
 use Rattle.std.specs.Result.{is_ok}
 use Rattle.refusal.specs.declared.Refusal.{Refusal as No}
 use Rattle.machine.specs.Step.{told_of as answer_told}
@@ -42,7 +42,7 @@ use Rattle.image.specs.Layout.{image_size, record_of}
 use Rattle.words.specs.Words.{words_of, length_told, wrote_of}
 use Rattle.words.specs.Told.{answer_row, first_or, told_in}
 use Rattle.words.specs.Says.{received_bytes}
-use Rattle.cabi.specs.Calls.{Tells, image_row, guarded, kept_of}
+use Rattle.cabi.specs.Calls.{Tells, loaded_of, guarded, kept_of}
 
 -- a writer's outcomes, as its result
 pub tells : {rows : List Row} {bytes out after : List ℕ} {w : Result ℕ No} {r : ℕ} → AllNamed rows → Writes rows bytes out w after → r ≡ wrote_of w → Tells rows bytes out r after
@@ -75,6 +75,14 @@ guard_is image rows n size ill own =
     go : (t : Bool) → sound_of (record_of image) ≡ t → when (not t) 16 (first_or rows n) ≡ n
     go true e = own e
     go false e = sym (ill e)
+
+-- the record of an image from which one was loaded, and that it has its size
+pub loaded : (image : List ℕ) {s : Sign} → Some s ≡ loaded_of image → (length image ≡ image_size) × (s ≡ record_of image)
+loaded image {s} = go (eqb (length image) image_size) refl
+  where
+    go : (t : Bool) → eqb (length image) image_size ≡ t → Some s ≡ when (not t) None (Some (record_of image)) → (length image ≡ image_size) × (s ≡ record_of image)
+    go true e h = (eqb-true (length image) image_size e, some_one h)
+    go false e h = absurd cc
 
 -- an answer that is long enough, or too short
 pub answer_is : (size : ℕ) (answer : List ℕ) (n : ℕ) → size ≤ length answer → first_or (answer_row size answer ∷ []) n ≡ n

@@ -1,7 +1,7 @@
 -- What each call for C answers, makes of the image, and writes into the lent answer: N251, N16, N19, N252 and their order
 -- in N0.
 -- An answer's numbers are `told_of` of its own crate (P13), and `words` has how they are laid.
-use Rattle.std.specs.Prelude.{ℕ, ◌+◌, ◌*◌, not, List, [], ◌∷◌, ◌≡◌, eqb, length}
+use Rattle.std.specs.Prelude.{ℕ, ◌+◌, ◌*◌, not, List, [], ◌∷◌, ◌≡◌, eqb, length, Option, Some, None}
 use Rattle.basis.specs.Bytes.{laid}
 use Rattle.basis.specs.Choice.{when}
 use Rattle.basis.specs.Rows.{Row, ◌if◌, first_of}
@@ -12,6 +12,7 @@ use Rattle.reply.specs.Reply.{heard_of, told_of as status_told}
 use Rattle.reckon.specs.Forecast.{forecast_of, told_of as forecast_told}
 use Rattle.hear.specs.Hear.{told_of as outcome_told}
 use Rattle.machine.specs.Step.{told_of as answer_told}
+use Rattle.sign.specs.declared.Sign.{Sign}
 use Rattle.sign.specs.Reset.{power_on, cleared_of}
 use Rattle.sign.specs.Receive.{receive_of}
 use Rattle.sign.specs.Step.{step_of}
@@ -49,6 +50,10 @@ forecast_answer body pace each answer = told_in 24 (words_of (forecast_told (for
 -- 251: an image of another size
 abbrev pub image_row : List ℕ → Row
 image_row image = 251 if not (eqb (length image) image_size)
+
+-- the record in a lent image, none where it has another size
+abbrev pub loaded_of : List ℕ → Option Sign
+loaded_of image = when (not (eqb (length image) image_size)) None (Some (record_of image))
 
 -- the guard of a call on a sign: 251, then 16 for a record that is not sound, before the call's own rows
 abbrev pub guarded : List ℕ → List Row → List Row

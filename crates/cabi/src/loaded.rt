@@ -1,22 +1,21 @@
 // The record in a lent image, and back; and 16 or 19 where an answer is too short (N16, N19, N252).
 ghost use Rattle.std.specs.Prelude.{◌≡◌, length};
 ghost use Rattle.basis.specs.Choice.{when};
-ghost use Rattle.image.specs.Layout.{image_size, image_of, record_of};
+ghost use Rattle.image.specs.Layout.{image_size, image_of};
 ghost use Rattle.packet.specs.Mid.{is_forbidden};
 ghost use Rattle.sign.specs.Sound.{sound_of};
+ghost use Rattle.cabi.specs.Calls.{loaded_of};
 
-use image::{SIZE, image_of, record_of};
+use image::{image_of, record_of};
 use packet::forbidden;
 use sign::Sign;
 
-// The record in a lent image.
-pub(crate) fn load(image: &[u8]) -> Sign
-    requires { length image.now ≡ image_size }
-    ensures { result ≡ record_of image.now }
+// The record in a lent image, or none where the image has another size.
+pub(crate) fn load(image: &[u8]) -> Option<Sign>
+    ensures { result ≡ loaded_of image.now }
 {
-    let mut held = [0; SIZE];
-    held.copy_from_slice(image);
-    record_of(held)
+    let held = image.as_array()?;
+    Some(record_of(*held))
 }
 
 // Writes the image of a record over a lent one.

@@ -34,10 +34,10 @@ pub extern "C" fn yd_reset(image: &mut [u8]) -> u32
     ensures result { result ≡ reset_no image.old }
     ensures kept { image.new ≡ reset_image image.old }
 {
-    if image.len() != SIZE {
+    let Some(sign) = load(image) else {
         return 251;
-    }
-    let cleared = load(image).reset();
+    };
+    let cleared = sign.reset();
     if cleared.outcome.is_ok() {
         store(cleared.sign, image);
     }
@@ -51,10 +51,9 @@ pub extern "C" fn yd_receive(image: &mut [u8], mid: u8, bytes: &[u8], answer: &m
     ensures kept { image.new ≡ receive_image image.old mid bytes.now answer.old }
     ensures told { answer.new ≡ receive_answer image.old mid bytes.now answer.old }
 {
-    if image.len() != SIZE {
+    let Some(sign) = load(image) else {
         return 251;
-    }
-    let sign = load(image);
+    };
     if answer.len() < 100 {
         return short(sign, short_for(mid));
     }
@@ -72,10 +71,9 @@ pub extern "C" fn yd_step(image: &mut [u8], answer: &mut [u8]) -> u32
     ensures kept { image.new ≡ step_image image.old answer.old }
     ensures told { answer.new ≡ step_answer image.old answer.old }
 {
-    if image.len() != SIZE {
+    let Some(sign) = load(image) else {
         return 251;
-    }
-    let sign = load(image);
+    };
     if answer.len() < 28 {
         return short(sign, 252);
     }
@@ -91,10 +89,10 @@ pub extern "C" fn yd_step(image: &mut [u8], answer: &mut [u8]) -> u32
 pub extern "C" fn yd_reply(image: &[u8], mid: u8, aux: u8, out: &mut [u8]) -> u32
     ensures { Tells (image_row image.now ∷ says_rows (record_of image.now) mid (not (eqb aux 0)) out.old) (says_of (record_of image.now) mid (not (eqb aux 0))) out.old result out.new }
 {
-    if image.len() != SIZE {
+    let Some(sign) = load(image) else {
         return 251;
-    }
-    tell_written(load(image).reply(mid, aux != 0, out))
+    };
+    tell_written(sign.reply(mid, aux != 0, out))
 }
 
 // Copies the running body, none when Ready.
@@ -102,10 +100,10 @@ pub extern "C" fn yd_reply(image: &[u8], mid: u8, aux: u8, out: &mut [u8]) -> u3
 pub extern "C" fn yd_copy_body(image: &[u8], out: &mut [u8]) -> u32
     ensures { Tells (image_row image.now ∷ copy_rows (record_of image.now) out.old) (running_body (record_of image.now)) out.old result out.new }
 {
-    if image.len() != SIZE {
+    let Some(sign) = load(image) else {
         return 251;
-    }
-    tell_written(load(image).copy_body(out))
+    };
+    tell_written(sign.copy_body(out))
 }
 
 // Whether the repeater shows the stretch of the body at this place and of this length, and not the standing line: the value is 1 or 0.

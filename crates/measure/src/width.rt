@@ -82,11 +82,10 @@ pub fn measure(text: &[u8]) -> Widths
 pub fn measure_at(body: &[u8], place: usize, len: usize) -> Widths
     ensures { result ≡ counted_of (widths_of (take len (drop place body.now))) }
 {
-    if body.len() < place {
-        return Widths { whole: 0, lit: 0 };
+    match body.get(place..) {
+        Some(rest) => measure(&rest[..len.min(rest.len())]),
+        None => Widths { whole: 0, lit: 0 },
     }
-    let count = len.min(body.len() - place);
-    measure(&body[place..place + count])
 }
 
 // Whether a text of these widths fits the sign: it goes by the lit width.

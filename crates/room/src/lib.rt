@@ -24,8 +24,8 @@ pub fn clean(bytes: &[u8], len: usize) -> bool
     if len == 0 {
         return zeros(bytes);
     }
-    if bytes.len() < len {
-        return true;
+    match bytes.get(len..) {
+        Some(rest) => zeros(rest),
+        None => true,
     }
-    zeros(&bytes[len..])
 }

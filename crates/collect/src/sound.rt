@@ -29,6 +29,7 @@ fn rule(total: u8, position: usize, len: u8) -> bool
 pub fn held(lens: Lengths) -> usize
     ensures { result ≡ held_of lens }
 {
+    // Counted by hand: `filter().count()` costs a packet in the middle an eighth more, since that loop is not unrolled (docs/PROVING.md).
     let mut n = 0;
     for len in &lens {
         if *len != 0 {
@@ -50,6 +51,7 @@ fn unused(slot: &[u8], len: u8) -> bool
 fn ruled(total: u8, lens: Lengths, room: &Room) -> bool
     ensures { result ≡ slots_of total 0 lens room.now }
 {
+    // By position: `all` over `zip(room.chunks_exact(PART)).enumerate()` has "not proved that what `unused` requires holds at this call".
     for i in 0..POSITIONS {
         let len = lens[i];
         let from = PART * i;

@@ -11,6 +11,7 @@ fn differ(ids: [u8; 4], count: usize) -> bool
     requires { count ≤ 4 }
     ensures { result ≡ differ_of (take count ids) }
 {
+    // By place: over `enumerate().all(..)` it is "not proved that what the function ensures holds when it returns".
     for i in 0..count {
         let id = ids[i];
         let from = i + 1;

@@ -1,4 +1,4 @@
-// The record in a lent image, and back; and 16 or 19 where an answer is too short (N16, N19, N252).
+// The record in a lent image, and back; and 16, 19 or 252 where an answer is too short (N16, N19, N252).
 ghost use Rattle.std.specs.Prelude.{◌≡◌, length};
 ghost use Rattle.basis.specs.Choice.{when};
 ghost use Rattle.image.specs.Layout.{image_size, image_of};

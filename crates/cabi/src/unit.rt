@@ -1,5 +1,5 @@
 // The sign for C, over an image of its record: rules J3, J14 to J16, S1, S28 and S29, with N16, N19, N34, N251
-// and N252.
+// and N252. A reset, a receive and a step each call, store where it is a yes, and tell: three lines thrice, which a closure would make no plainer.
 ghost use Rattle.std.specs.Prelude.{◌≡◌, not, [], ◌∷◌, eqb};
 ghost use Rattle.basis.specs.Rows.{first_of};
 ghost use Rattle.basis.specs.Told.{flag_of};

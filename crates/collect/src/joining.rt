@@ -4,7 +4,7 @@ ghost use Rattle.collect.specs.Slots.{same_of, begun_of, slots_in};
 
 use crate::{POSITIONS, Slots};
 
-// Whether two lists of bytes are equal, in length and byte by byte.
+// Whether two lists of bytes are equal, in length and byte by byte: a public call of its own, with the law `one_collect_same`.
 pub fn same(one: &[u8], other: &[u8]) -> bool
     ensures { result ≡ same_of one.now other.now }
 {

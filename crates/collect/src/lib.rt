@@ -14,7 +14,8 @@ pub use sound::held;
 // The positions that a packet may have.
 pub const POSITIONS: usize = 6;
 
-// The most data that a packet has, which is what a slot has room for.
+// The most data that a packet has, which is what a slot has room for. This crate stands on none of the wire, so it and `packet` each name
+// the rules' 14.
 pub const PART: usize = 14;
 
 // A length for each position.

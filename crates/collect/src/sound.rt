@@ -63,7 +63,7 @@ fn ruled(total: u8, lens: Lengths, room: &Room) -> bool
     true
 }
 
-// The same where nothing is collected: no lengths, and zeros all over the room.
+// Whether each slot obeys the packet rules where nothing is collected: no lengths, and zeros all over the room.
 fn blank(lens: Lengths, room: &Room) -> bool
     ensures { result ≡ slots_of 0 0 lens room.now }
 {
@@ -75,7 +75,7 @@ impl Slots {
     pub fn none(self) -> bool
         ensures { result ≡ nothing_of self }
     {
-        // A copy, for the reason given in `completed`.
+        // A copy: fields lent where they stand, as in `completed`, `hear` and `image`, cost a receive twenty instructions.
         let lens = self.lens;
         self.id == 0 && self.total == 0 && clean(&lens, 0)
     }
@@ -84,7 +84,7 @@ impl Slots {
     pub fn sound(self, completed: Completed, room: &Room) -> bool
         ensures { result ≡ sound_of completed (collection_of self room.now) }
     {
-        // Copies, for the same reason.
+        // Copies, since fields lent where they stand cost a receive twenty instructions, as in `none`.
         let id = self.id;
         let total = self.total;
         let lens = self.lens;

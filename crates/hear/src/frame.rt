@@ -8,7 +8,7 @@ use collect::Slots;
 use completed::Completed;
 use room::Room;
 
-// Whether all of a record but its run is sound: completed IDs, slots and room, and the length of the running body.
+// Whether completed IDs, slots and room are sound beside a running body of this length, 0 when Ready.
 pub fn framed(completed: Completed, slots: Slots, room: &Room, len: usize) -> bool
     ensures { result ≡ framed_by completed (collection_of slots room.now) len }
 {

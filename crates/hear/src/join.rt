@@ -29,7 +29,8 @@ fn released(completed: Completed, slots: Slots, room: &Room) -> Heard
     requires { Whole (collection_of slots room.now) }
     ensures { left_of result room.now ≡ whole_of completed (collection_of slots room.now) }
 {
-    // A copy, here and where it is stored: lent where it stands, with the fields of `collect`, a receive costs more.
+    // A copy, here and where it is stored: fields lent where they stand, as in `collect`, `completed` and `image`, cost a receive
+    // twenty instructions.
     let lens = slots.lens;
     let at = slots.total as usize - 1;
     let len = PART * at + lens[at] as usize;

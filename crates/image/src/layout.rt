@@ -66,7 +66,8 @@ pub fn record_of(image: Image) -> Sign
 pub fn image_of(sign: Sign) -> Image
     ensures { result ≡ image_of sign }
 {
-    // Copies of the record's parts: taken apart where they stand, with the fields of `collect` and `completed`, a receive costs more.
+    // Copies of the record's parts: taken apart where they stand, as the fields of `collect`, `completed` and `hear`, they cost a receive twenty
+    // instructions.
     let completed = sign.completed;
     let ids = completed.ids;
     let slots = sign.slots;

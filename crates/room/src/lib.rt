@@ -4,7 +4,7 @@
 ghost use Rattle.std.specs.Prelude.{◌≡◌, drop};
 ghost use Rattle.room.specs.Room.{zeros_of};
 
-// The bytes of a room.
+// The bytes of a room. No crate with code lies under this one, `packet` and `judge`, so each names the rules' 84 (`LONGEST` and `MOST` there).
 pub const SIZE: usize = 84;
 
 // A record's room: it holds the data of the packets collected, or the running body.
@@ -17,7 +17,7 @@ fn zeros(bytes: &[u8]) -> bool
     bytes.iter().fold(0, |all: u8, x| all.max(*x)) == 0
 }
 
-// Whether all bytes behind the first `len` are 0; where all are to be, their number is known to the compiler.
+// Whether all bytes behind the first `len` are 0. A `len` of 0 has a test of its own: where the bytes are an array, the compiler knows their number.
 pub fn clean(bytes: &[u8], len: usize) -> bool
     ensures { result ≡ zeros_of (drop len bytes.now) }
 {

@@ -40,7 +40,7 @@ pub struct Received {
     pub body: Room,
 }
 
-// The record after a reset, and whether the record was sound.
+// The record after a reset, and its outcome: that of a reset packet (J14), or the refusal of an unsound record.
 #[derive(Clone, Copy)]
 pub struct Cleared {
     pub sign: Sign,

@@ -12,7 +12,7 @@ impl Sign {
     pub fn sound(self) -> bool
         ensures { result ≡ sound_of self }
     {
-        // A struct of its own: lent from the record, it would keep the whole record in memory.
+        // A struct of its own: it is passed by its address, and the address of a field would keep the whole record in memory.
         let completed = Completed {
             count: self.completed.count,
             ids: self.completed.ids,

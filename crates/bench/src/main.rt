@@ -1,7 +1,7 @@
 #![tactic(auto)]
 
-// The bench (P5): the examples of the rules that have no star, but those of J and R, which `bus` has, and every forecast, by the public calls, a line each.
-// The file stdout is written from the rules.
+// The bench (P5) runs examples of the rules by the public calls and prints a line for each: all that have no star, and every forecast.
+// Those of J and R are left to `bus`. The file stdout is written from the rules.
 //   carry      how many packets a body takes
 //   show       a body sent to a new sign packet by packet, and its first step
 //   foretell   a body's forecast at pace 4 and one scan

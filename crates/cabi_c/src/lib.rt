@@ -1,8 +1,8 @@
 #![tactic(auto)]
 
 // The archive's exports: each call for C under its own name, as include/yurodekapi.h declares it. A lent slice is a pointer and a length.
-// Every call is that of the crate `cabi`, with the same clauses, and does nothing else. A library such as `cabi` exports nothing, whatever its
-// functions are called, and an archive is a crate of its own; `rt lib` writes the archive of these.
+// Every call is that of the crate `cabi`, with the same clauses, and does nothing else. A library such as `cabi` exports nothing by itself:
+// `rt lib` writes an archive of a crate's own exports alone, so the archive is a crate of its own.
 // The order is that of the modules of `cabi`: wire, line, unit, version.
 ghost use Rattle.std.specs.Prelude.{◌≡◌, not, [], ◌∷◌, eqb};
 ghost use Rattle.basis.specs.Rows.{first_of};

@@ -29,7 +29,7 @@ pub fn none() -> Completed
 }
 
 impl Completed {
-    // The last completed ID, 41h if there is none.
+    // The last completed ID, 41h if there is none. It is no `Option`, as 41h is W10's own number, which C is told too.
     pub fn last(self) -> u8
         ensures { result ≡ last_of self }
     {

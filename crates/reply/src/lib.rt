@@ -12,7 +12,8 @@ mod letters;
 pub use hears::read_reply;
 pub use lays::write_reply;
 
-// What a reply tells of a sign: last completed ID, Busy or Ready, AUX sunk or floating.
+// What a reply tells of a sign: last completed ID, Busy or Ready, AUX sunk or floating. `last` is no `Option`: 41h for none is W10's own
+// number, which C is told too.
 #[derive(Clone, Copy, Debug, PartialEq, Eq)]
 pub struct Status {
     pub last: u8,

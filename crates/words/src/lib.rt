@@ -2,8 +2,8 @@
 
 // What C is told: an answer as words of four bytes at the front of a lent buffer, and the result that a call returns. No call has a
 // `requires`: a refusal writes nothing, and neither is anything written into an answer that is too short, which is 252.
-// The five calls that write begin alike, each with the size of its own answer. Must-fail edits make such a size another, as
-// `read_answer_of_19`, which shortens it by one.
+// The five calls that write begin alike, each with the size of its own answer. A must-fail edit makes each of these sizes
+// another, as `read_answer_of_19`.
 // 252 is a number here since it is the call's result, and no refusal of the library has it.
 //   laying    words of four bytes, lowest first, in a row
 //   results   the number for no with a value above it, and what a writer wrote

@@ -13,16 +13,10 @@ pub fn front(body: &[u8]) -> Result<(), Fault>
     ensures { result ≡ front_of body.now }
 {
     if MOST < body.len() {
-        return Err(Fault {
-            refusal: Refusal::LongBody,
-            place: MOST,
-        });
+        return Err(Refusal::LongBody.at(MOST));
     }
     if body.first() != Some(&CARET) {
-        return Err(Fault {
-            refusal: Refusal::NoCaret,
-            place: 0,
-        });
+        return Err(Refusal::NoCaret.at(0));
     }
     Ok(())
 }

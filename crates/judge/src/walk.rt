@@ -44,10 +44,7 @@ fn over(flow: Flow, found: Option<Found>) -> Result<Walked, Fault>
             ending: Ending::Endless,
             found,
         }),
-        Flow::Within(open) => Err(Fault {
-            refusal: Refusal::WrongLoop,
-            place: open.caret,
-        }),
+        Flow::Within(open) => Err(Refusal::WrongLoop.at(open.caret)),
     }
 }
 

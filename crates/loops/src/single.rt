@@ -20,10 +20,7 @@ fn structured(command: Command, place: usize, flow: Flow) -> Result<Turn, Fault>
         number: command.number as usize,
     };
     let Some(flow) = rule(flow, role(command.kind), here) else {
-        return Err(Fault {
-            refusal: Refusal::WrongLoop,
-            place,
-        });
+        return Err(Refusal::WrongLoop.at(place));
     };
     Ok(Turn { next, flow })
 }
@@ -33,10 +30,7 @@ pub fn turned(read: Result<Command, Fault>, place: usize, flow: Flow) -> Result<
     ensures { result ≡ turned_of read place flow }
 {
     if matches!(flow, Flow::Ended) {
-        return Err(Fault {
-            refusal: Refusal::BehindEnd,
-            place,
-        });
+        return Err(Refusal::BehindEnd.at(place));
     }
     let command = read?;
     structured(command, place, flow)

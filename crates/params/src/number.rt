@@ -13,10 +13,7 @@ use refusal::{Fault, Refusal};
 pub fn read_number(body: &[u8], place: usize, from: usize, range: Range) -> Result<Parameter, Fault>
     ensures { result ≡ number_of range.least range.greatest range.digits place from (param_of (drop from body.now)) }
 {
-    let wrong = Fault {
-        refusal: Refusal::WrongNumber,
-        place,
-    };
+    let wrong = Refusal::WrongNumber.at(place);
     let mut at = from;
     let mut value: u32 = 0;
     loop {

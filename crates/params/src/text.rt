@@ -70,7 +70,7 @@ pub fn read_text(body: &[u8], from: usize) -> Result<Parameter, Fault>
         }
         let kind = kind_of(x);
         if let Some(refusal) = wrong(body, at, kind) {
-            return Err(Fault { refusal, place: at });
+            return Err(refusal.at(at));
         }
         at = piece_end(body, at, kind);
     }

@@ -19,10 +19,7 @@ fn parameter(body: &[u8], place: usize, from: usize, form: Form) -> Result<Param
             next: from,
             number: 0,
         }),
-        Form::Bare => Err(Fault {
-            refusal: Refusal::WrongByte,
-            place: from,
-        }),
+        Form::Bare => Err(Refusal::WrongByte.at(from)),
         Form::Number(range) => read_number(body, place, from, range),
     }
 }
@@ -50,10 +47,7 @@ fn command(kind: Kind, form: Form, from: usize, read: Parameter) -> Command
 pub fn read_command(body: &[u8], place: usize) -> Result<Command, Fault>
     ensures { result ≡ read_of body.now place }
 {
-    let wrong = Fault {
-        refusal: Refusal::NoCommand,
-        place,
-    };
+    let wrong = Refusal::NoCommand.at(place);
     if body.get(place) != Some(&CARET) {
         return Err(wrong);
     }

@@ -197,6 +197,9 @@ use Rattle.units.proofs.MillisAmount.number.Reads as units_millis_number_reads
 use Rattle.refusal.specs.contracts.Refusal.number as refusal_refusal_number
 use Rattle.refusal.proofs.Refusal.number.Kinds as refusal_refusal_number_kinds
 use Rattle.refusal.proofs.Refusal.number.Reads as refusal_refusal_number_reads
+use Rattle.refusal.specs.contracts.Refusal.at as refusal_refusal_at
+use Rattle.refusal.proofs.Refusal.at.Kinds as refusal_refusal_at_kinds
+use Rattle.refusal.proofs.Refusal.at.Reads as refusal_refusal_at_reads
 use Rattle.units.specs.contracts.Millis.tenths as units_millis_tenths
 use Rattle.units.proofs.Millis.tenths.Kinds as units_millis_tenths_kinds
 use Rattle.units.proofs.Millis.tenths.Reads as units_millis_tenths_reads
@@ -528,6 +531,10 @@ one_units_millis_tenths κs a r r' s s' h h' = one h h'
 pub one_refusal_refusal_number : (κs : Lifetimes.Lfts 0) (a : World.ArgsD refusal_refusal_number.signature κs) (r r' : World.ResD refusal_refusal_number.signature κs)
     (s s' : Clauses.AtExit (K.ended_of 0 refusal_refusal_number_kinds.ps refusal_refusal_number_kinds.r) κs) → refusal_refusal_number_reads.Post κs a r s → refusal_refusal_number_reads.Post κs a r' s' → r ≡ r'
 one_refusal_refusal_number κs a r r' s s' h h' = one h h'
+
+pub one_refusal_refusal_at : (κs : Lifetimes.Lfts 0) (a : World.ArgsD refusal_refusal_at.signature κs) (r r' : World.ResD refusal_refusal_at.signature κs)
+    (s s' : Clauses.AtExit (K.ended_of 0 refusal_refusal_at_kinds.ps refusal_refusal_at_kinds.r) κs) → refusal_refusal_at_reads.Post κs a r s → refusal_refusal_at_reads.Post κs a r' s' → r ≡ r'
+one_refusal_refusal_at κs a r r' s s' h h' = one h h'
 
 pub one_sign_sign_power_on : (κs : Lifetimes.Lfts 0) (a : World.ArgsD sign_sign_power_on.signature κs) (r r' : World.ResD sign_sign_power_on.signature κs)
     (s s' : Clauses.AtExit (K.ended_of 0 sign_sign_power_on_kinds.ps sign_sign_power_on_kinds.r) κs) → sign_sign_power_on_reads.Post κs a r s → sign_sign_power_on_reads.Post κs a r' s' → r ≡ r'

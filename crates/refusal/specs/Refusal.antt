@@ -86,6 +86,10 @@ abbrev pub refused_or : {A : Type 0} → ℕ → A → Result A Refusal
 refused_or zero answer = Ok answer
 refused_or (suc n) answer = Err (refusal_of (suc n))
 
+-- this refusal at this place
+abbrev pub fault_at : Refusal → (place : ℕ) → Fault
+fault_at e place = record { refusal = e; place = place }
+
 -- a fault of this number at this place
 abbrev pub fault : (number place : ℕ) → Fault
 fault number place = record { refusal = refusal_of number; place = place }

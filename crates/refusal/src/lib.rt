@@ -3,7 +3,7 @@
 // Why a call says no: the rules' numbers for no, each with a name (N0). The calls for C have two more of their own, 251 and 252.
 // `Fault` is a refusal with the place that it is told with, which only those of a body have (N21 to N28).
 ghost use Rattle.std.specs.Prelude.{◌≡◌, Some};
-ghost use Rattle.refusal.specs.Refusal.{number_of, refusal_text, fault_text};
+ghost use Rattle.refusal.specs.Refusal.{number_of, fault_at, refusal_text, fault_text};
 
 use std::error::Error;
 use std::fmt;
@@ -83,6 +83,16 @@ impl Refusal {
         ensures { result ≡ number_of self }
     {
         self as u8
+    }
+
+    // This refusal of a body, and where in the body it is.
+    pub fn at(self, place: usize) -> Fault
+        ensures { result ≡ fault_at self place }
+    {
+        Fault {
+            refusal: self,
+            place,
+        }
     }
 }
 

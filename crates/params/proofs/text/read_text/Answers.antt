@@ -15,7 +15,8 @@ returns-in-Some c =
     let b = c.args.body.now in
     let x = get_or b l.at caret in
     let n = named_some (wrong_of 0 0 x (get_or b (l.at + 1) caret)) c.in-Some.refusal (sym c.wrong.ensures ∙ c.in-Some.is) in
-    ap (λ (e : Refusal). Err (record { refusal = e; place = l.at })) (sym n.1)
+    ap Err c.at.ensures
+    ∙ ap (λ (e : Refusal). Err (record { refusal = e; place = l.at })) (sym n.1)
     ∙ text_bad b 0 0 l.at x _ refl (λ k. c.if-x-eq-CARET.false (c.byte_at-x.ensures ∙ k)) refl n.0
     ∙ l.invariant
 

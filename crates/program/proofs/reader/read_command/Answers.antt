@@ -15,13 +15,15 @@ pub returns-then-ne : goal.returns-then-ne
 unfolding read_of
 returns-then-ne c =
     let a = c.args in
-    sym (ap (row_of a.body.now a.place) (got_other a.body.now a.place c.get.result _ c.get.ensures.lookup refl (sym c.if-ne.true ∙ c.ne.ensures)))
+    ap Err c.at-wrong.ensures
+    ∙ sym (ap (row_of a.body.now a.place) (got_other a.body.now a.place c.get.result _ c.get.ensures.lookup refl (sym c.if-ne.true ∙ c.ne.ensures)))
 
 pub returns-in_default : goal.returns-in_default
 returns-in_default c =
     let a = c.args in
     let g = got_caret a.body.now a.place c.get.result _ c.get.ensures.lookup refl (sym c.if-ne.false ∙ c.ne.ensures) in
-    sym (read_row a.body.now a.place c.byte_at-x.result c.byte_at-y.result c.row.result g.0 g.1 c.byte_at-x.ensures c.byte_at-y.ensures c.row.ensures None c.in_default.is)
+    ap Err c.at-wrong.ensures
+    ∙ sym (read_row a.body.now a.place c.byte_at-x.result c.byte_at-y.result c.row.result g.0 g.1 c.byte_at-x.ensures c.byte_at-y.ensures c.row.ensures None c.in_default.is)
 
 pub returns-in_err-read : goal.returns-in_err-read
 returns-in_err-read c =

@@ -29,6 +29,7 @@ pub enum Ending {
 pub type Verdict = Result<Ending, Fault>;
 
 // Where a command of an accepted body stands: outside loops, or inside the loop with this place behind its `L` and this number.
+// Two cases with their names and no `Option` of a loop, because what `stand` answers has an `Option` around them.
 #[derive(Clone, Copy)]
 pub enum Standing {
     Outside,

@@ -13,7 +13,7 @@ pub fn stand(body: &[u8], place: usize) -> Option<Standing>
     Some(find(body, place)?.standing)
 }
 
-// The same with the command that stands there, for one that performs it.
+// The same with the command that stands there, for a caller that performs the command.
 pub fn find(body: &[u8], place: usize) -> Option<Found>
     ensures { result ≡ found_of body.now place }
 {

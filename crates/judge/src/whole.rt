@@ -7,7 +7,7 @@ use crate::begin::front;
 use crate::walk::walk;
 
 // Whether a body is a program, and endless; or the first refusal in N0's order. It looks for no place: the one that
-// the walk gets is after the last command.
+// the walk gets is after the last command, where none stands. As an `Option` the place would be asked at each command.
 pub fn judge(body: &[u8]) -> Verdict
     ensures { result ≡ judge_of body.now }
 {

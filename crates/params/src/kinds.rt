@@ -3,8 +3,8 @@ ghost use Rattle.std.specs.Prelude.{◌≡◌, ◌<◌, get_or};
 ghost use Rattle.params.specs.Kinds.{kind_of, kind_digit};
 ghost use Rattle.params.specs.KindTable.{kind_rows};
 
-// The digit of each kind in the table. No code asks for control or caret: they are named for a reader of the rows. They are no enum,
-// which would need a second `match`, from the digit that comes out of the table to a kind, and be no plainer.
+// The digit of each kind in the table, with a name, as P15 asks. No code asks for control or caret: they are named for a reader of the
+// rows. They are no enum, which would need a second `match`, from the digit that comes out of the table to a kind, and be no plainer.
 pub(crate) const KIND_PLAIN: u8 = 0;
 
 pub(crate) const KIND_CONTROL: u8 = 1;

@@ -16,7 +16,8 @@ pub use bytes::{CARET, TILDE, byte_at};
 pub use number::read_number;
 pub use text::read_text;
 
-// A parameter read: the place behind it, and its number, which is 0 of a text or of nothing.
+// A parameter read: the place behind it, and its number, which is 0 of a text or of nothing. It is no `Option`, because what a step
+// answers tells a number for every command (`values_of`).
 #[derive(Clone, Copy)]
 pub struct Parameter {
     pub number: u8,

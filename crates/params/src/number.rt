@@ -9,7 +9,7 @@ use crate::{Parameter, Range};
 use refusal::{Fault, Refusal};
 
 // The number from a place on, within this range and of one digit at least; 23 at the command's place where it is not.
-// The loop steps by what was read and ends at the first fault, so there is no list to go over.
+// It ends at the first byte that is no digit and keeps a value on the way, while a fold would go on to the end of the body.
 pub fn read_number(body: &[u8], place: usize, from: usize, range: Range) -> Result<Parameter, Fault>
     ensures { result ≡ number_of range.least range.greatest range.digits place from (param_of (drop from body.now)) }
 {

@@ -12,7 +12,6 @@ use crate::kinds::{KIND_COLUMN, KIND_PLAIN, KIND_TILDE, kind_of};
 use refusal::{Fault, Refusal};
 
 // The place after the columns that stand from a place on. The end is compared and not asked of the table, which costs less.
-// The loop steps by what was read, so there is no list to go over.
 fn run_end(body: &[u8], from: usize) -> usize
     ensures { result ≡ from + run_length (drop from body.now) }
 {

@@ -6,7 +6,7 @@
 //   table      the letters of each command and its form                 L9 to L24
 //   reader     one command at a place, or its refusal 22 to 25          L2, L3, N22 to N25
 //   letters    a command's letters in print                             L9 to L24
-// The definitions that the contracts cite stand in specs/ under the same names.
+// The definitions that the contracts cite stand in specs/: Table, Command and Answers.
 mod letters;
 mod reader;
 mod table;

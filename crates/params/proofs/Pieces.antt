@@ -4,12 +4,16 @@ use mathlib.Core.Path.{◌≡◌, refl, sym, ap, ◌∙◌}
 use mathlib.Core.Bool.{Bool, true, false}
 use mathlib.Core.List.{List, [], ◌∷◌}
 use native.Mathlib.Omega.{arith}
-use borrow.Author.Tests.{eqb-true, eq-eqb, ne_eqb}
-use lib.Dec.{eqb}
+use borrow.Author.Tests.{eqb-true, eq-eqb, ne_eqb, ltb-false}
+use lib.Dec.{eqb, ltb}
 use lib.Seq.{drop-drop}
-use lib.ListN.{get_or, drop}
+use lib.ListN.{length, get_or, drop}
 use Rattle.basis.specs.Choice.{when, ◌and◌, ◌or◌}
 use Rattle.basis.proofs.Choices.{when_true, when_false}
+use Rattle.std.specs.Prelude.{cond, not, position}
+use Rattle.std.specs.Option.{unwrap_or}
+use Rattle.std.specs.List.{position_or_len}
+use Rattle.std.proofs.lemmas.List.Sums.{prefix_len-le-length}
 use Rattle.params.specs.Bytes.{caret, param_of, first_of, read_to}
 use Rattle.params.specs.Kinds.{ByteKind, Plain, Caret, Tilde, Column, kind_of, kind_digit, kind_is}
 use Rattle.params.specs.Text.{is_letter, may_run, wrong_of, text_of}
@@ -17,7 +21,7 @@ use Rattle.params.specs.Pieces.{run_length, piece_of}
 use Rattle.params.specs.declared.Parameter.{Parameter}
 use Rattle.refusal.specs.declared.Fault.{Fault}
 use Rattle.refusal.specs.Refusal.{fault}
-use Rattle.std.proofs.Common.{Result, Ok, Err}
+use Rattle.std.proofs.Common.{Result, Ok, Err, Some, None}
 use Rattle.params.proofs.Places.{param_cons, param_first}
 use Rattle.params.proofs.Texts.{text_next}
 
@@ -190,3 +194,24 @@ module _ (b : List ℕ) (i : ℕ) (h : get_or b i caret ≡ caret → ⊥) (w : 
       go : (t : Bool) → kind_is Tilde (get_or b i caret) ≡ t → from i ≡ from (i + when t (2 + when (eqb (get_or b (i + 1) caret) 0x47) (run_length (drop (i + 2) b)) 0) 1)
       go true e = pair_piece e
       go false e = plain_piece e
+
+-- the first byte that passes, or behind them all
+place_or_end : (p : ℕ → Bool) (xs : List ℕ) → unwrap_or (position p xs) (length xs) ≡ position_or_len p xs
+place_or_end p xs = go (ltb (position_or_len p xs) (length xs)) refl
+  where
+    go : (t : Bool) → ltb (position_or_len p xs) (length xs) ≡ t → unwrap_or (cond t (Some (position_or_len p xs)) None) (length xs) ≡ position_or_len p xs
+    go true e = refl
+    go false e = omega (arith, ltb-false (position_or_len p xs) (length xs) e, prefix_len-le-length (λ x. not (p x)) xs)
+
+-- a run of columns ends at the first byte that is none
+run_ends : (xs : List ℕ) → position_or_len (λ x. not (kind_is Column x)) xs ≡ run_length xs
+run_ends [] = refl
+run_ends (x ∷ xs) = go (kind_is Column x) (run_ends xs)
+  where
+    go : (t : Bool) → position_or_len (λ y. not (kind_is Column y)) xs ≡ run_length xs
+        → cond (not (not t)) (1 + position_or_len (λ y. not (kind_is Column y)) xs) 0 ≡ when t (suc (run_length xs)) 0
+    go true e = omega arith
+    go false e = refl
+
+pub run_first : (xs : List ℕ) → unwrap_or (position (λ x. not (kind_is Column x)) xs) (length xs) ≡ run_length xs
+run_first xs = place_or_end (λ x. not (kind_is Column x)) xs ∙ run_ends xs

@@ -1,8 +1,8 @@
 // A text read to its end (L2, L4 to L6), or refused with N24 or N25. It is passed piece by piece: a plain byte, or a pair with the
 // columns that follow `~G`. So a column where a piece begins follows neither `~G` nor a column.
-ghost use Rattle.std.specs.Prelude.{◌≡◌, ◌+◌, ◌<◌, length, get_or, drop};
+ghost use Rattle.std.specs.Prelude.{◌≡◌, ◌+◌, ◌<◌, length, get_or, drop, position, not};
 ghost use Rattle.params.specs.Bytes.{caret, param_of};
-ghost use Rattle.params.specs.Kinds.{kind_of, kind_digit};
+ghost use Rattle.params.specs.Kinds.{Column, kind_is, kind_of, kind_digit};
 ghost use Rattle.params.specs.Text.{text_of};
 ghost use Rattle.params.specs.Pieces.{wrong_here, run_length, piece_of};
 
@@ -11,18 +11,21 @@ use crate::bytes::{CARET, byte_at, is_letter};
 use crate::kinds::{KIND_COLUMN, KIND_PLAIN, KIND_TILDE, kind_of};
 use refusal::{Fault, Refusal};
 
-// The place after the columns that stand from a place on. The end is compared and not asked of the table, which costs less.
+// Where the first byte stands that is no column, if there is one.
+fn first_other(rest: &[u8]) -> Option<usize>
+    ensures { result ≡ position (λ x. not (kind_is Column x)) rest.now }
+{
+    rest.iter().position(|x| kind_of(*x) != KIND_COLUMN)
+}
+
+// The place after the columns that stand from a place on.
 fn run_end(body: &[u8], from: usize) -> usize
     ensures { result ≡ from + run_length (drop from body.now) }
 {
-    let mut at = from;
-    loop {
-        let x = byte_at(body, at);
-        if x == CARET || kind_of(x) != KIND_COLUMN {
-            return at;
-        }
-        at += 1;
-    }
+    let Some(rest) = body.get(from..) else {
+        return from;
+    };
+    from + first_other(rest).unwrap_or(rest.len())
 }
 
 // What is wrong with the byte at a place, of this kind, where a piece begins. The byte after it counts for a tilde alone, and is read

@@ -101,10 +101,7 @@ pub fn forecast(body: &[u8], pace: u8, scans: u8) -> Result<Foretold, Fault>
         bright: 0,
     };
     if !settings.sound() {
-        return Err(Fault {
-            refusal: Refusal::WrongStart,
-            place: 0,
-        });
+        return Err(Refusal::WrongStart.at(0));
     }
     front(body)?;
     walk(&Body::new(body), settings)

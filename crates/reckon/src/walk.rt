@@ -105,10 +105,7 @@ fn told(flow: Flow, sums: Sums) -> Result<Foretold, Fault>
             scans: sums.at.settings.scans,
         }),
         Flow::Ended => Ok(Foretold::Endless),
-        Flow::Within(open) => Err(Fault {
-            refusal: Refusal::WrongLoop,
-            place: open.caret,
-        }),
+        Flow::Within(open) => Err(Refusal::WrongLoop.at(open.caret)),
     }
 }
 

@@ -10,7 +10,7 @@ use Rattle.reckon.proofs.reckon.forecast.Goals as goal
 use Rattle.std.proofs.Common.{List, ℕ, Err}
 
 pub returns-then-not-sound : goal.returns-then-not-sound
-returns-then-not-sound c = sym (out_refused c.args.body.now c.args.pace c.args.scans (sym c.sound.ensures ∙ c.if-not-sound.true))
+returns-then-not-sound c = ap Err c.at.ensures ∙ sym (out_refused c.args.body.now c.args.pace c.args.scans (sym c.sound.ensures ∙ c.if-not-sound.true))
 
 pub returns-in_err-front : goal.returns-in_err-front
 returns-in_err-front c =

@@ -17,7 +17,7 @@ fn structured(command: Command, place: usize, flow: Flow) -> Result<Turn, Fault>
     let here = Open {
         caret: place,
         behind: next,
-        number: command.number as usize,
+        number: command.number,
     };
     let Some(flow) = rule(flow, role(command.kind), here) else {
         return Err(Refusal::WrongLoop.at(place));

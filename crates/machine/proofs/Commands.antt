@@ -1,7 +1,7 @@
--- What the step's code needs of a good command: its number is in range, and its answer is that of its kind.
-use Prim.Native.Nat.{ℕ, ◌+◌, ◌≤◌}
+-- What the step's code needs of a good command: its number is a byte, and its answer is that of its kind.
+use Prim.Native.Nat.{ℕ, ◌+◌, ◌%◌, ◌≤◌}
 use mathlib.Core.List.{List, []}
-use mathlib.Core.Path.{◌≡◌, refl, ap, subst}
+use mathlib.Core.Path.{◌≡◌, refl, ap, subst, ◌∙◌}
 use native.Mathlib.Omega.{arith}
 use lib.ListN.{take, drop}
 use Rattle.measure.specs.Width.{widths_of}
@@ -38,6 +38,9 @@ range_byte XD n h = omega arith
 range_byte XB n h = omega arith
 range_byte Y n h = omega arith
 
+pub number_byte : (b : List ℕ) (p : ℕ) (c : Command) → read_of b p ≡ Ok c → c.number ≤ 255
+number_byte b p c e = range_byte c.kind c.number (number_in_range b p c e)
+
 -- an answer without text goes by its kind and number alone
 bare_answer : (k : Kind) (n m t l : ℕ) (w : Widths) (σ : Settings) → n ≡ m → t ≡ 0 → l ≡ 0 → answer_of k m 0 0 w σ ≡ answer_of k n t l w σ
 bare_answer k n m t l w σ en et el = cc
@@ -67,8 +70,11 @@ by_kind Y b p at c σ e r t = ap (λ (x : Kind). answer_of x c.number c.text c.l
 -- a good command answers what its kind, number, text and widths say
 pub says_is : (b : List ℕ) (p : ℕ) (c : Command) (σ : Settings) → read_of b p ≡ Ok c
     → says_of (part_of (role_of c.kind) (act_of b p c)) σ
-    ≡ answer_of c.kind c.number c.text c.len (widths_of (take c.len (drop c.text b))) σ
+    ≡ answer_of c.kind (c.number % 256) c.text c.len (widths_of (take c.len (drop c.text b))) σ
 says_is b p c σ e =
     let m = made b p c e in
+    let byte = number_byte b p c e in
+    let same : c.number ≡ c.number % 256 = omega arith in
     by_kind c.kind b p (p + m.letters) c σ refl (number_in_range b p c e)
     (subst (λ (f : Form). TextAt f (p + m.letters) c) (form_is b p c e) m.text)
+    ∙ ap (λ (n : ℕ). answer_of c.kind n c.text c.len (widths_of (take c.len (drop c.text b))) σ) same

@@ -1,5 +1,5 @@
 -- The record behind a command, field by field, is the record of the state behind it.
-use Prim.Native.Nat.{ℕ, zero, suc, ◌+◌, ◌-◌, ◌≤◌}
+use Prim.Native.Nat.{ℕ, zero, suc, ◌+◌, ◌-◌, ◌%◌, ◌≤◌}
 use mathlib.Core.List.{List, [], ◌∷◌}
 use mathlib.Core.Bool.{Bool}
 use mathlib.Core.Path.{◌≡◌, refl, sym, ap, ◌∙◌}
@@ -90,7 +90,7 @@ moved_by Again b p c r e = settle_is r 0 (frames_of r.inner) r.settings
 -- a Busy run with a good command at its place
 pub ran_good : (b : List ℕ) (r : Run) (c : Command) (w : Widths) (x : Run) (y : Performed) → read_of b r.place ≡ Ok c
     → w ≡ widths_of (take c.len (drop c.text b))
-    → y ≡ answer_of c.kind c.number c.text c.len w r.settings
+    → y ≡ answer_of c.kind (c.number % 256) c.text c.len w r.settings
     → x ≡ moved_of (role_of c.kind) c.kind c.number r c.next
     → ◌≡◌ {A = Stepped} (record { run = x; answer = Ok (Some y) }) (ran_of b r)
 ran_good b r c w x y e ew ey ex =
@@ -103,7 +103,7 @@ ran_good b r c w x y e ew ey ex =
     ∙ sym (moved_by ρ b p c r (next_is b p c e ρ refl))
     ∙ ap (λ (t : Tok). run_of r (went_at r.len t p (frames_of r.inner) r.settings)) (sym there) in
     let says : Ok (Some y) ≡ say_of (said_at (get b p) r.settings) =
-    ap (λ (q : Performed). Ok (Some q)) (ey ∙ ap (λ (v : Widths). answer_of c.kind c.number c.text c.len v r.settings) ew ∙ sym (says_is b p c r.settings e))
+    ap (λ (q : Performed). Ok (Some q)) (ey ∙ ap (λ (v : Widths). answer_of c.kind (c.number % 256) c.text c.len v r.settings) ew ∙ sym (says_is b p c r.settings e))
     ∙ ap (λ (t : Tok). say_of (said_at t r.settings)) (sym there) in
     ap (λ (z : Run). record { run = z; answer = Ok (Some y) }) next
     ∙ ap (λ (z : Result (Option Performed) Refusal). record { run = run_of r (went_at r.len (get b p) p (frames_of r.inner) r.settings); answer = z }) says

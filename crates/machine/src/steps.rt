@@ -1,5 +1,5 @@
 // One step of a run: rules S1 and S6 to S13, and N16.
-ghost use Rattle.std.specs.Prelude.{◌≡◌, true, Ok};
+ghost use Rattle.std.specs.Prelude.{◌≡◌, ◌≤◌, true, Ok};
 ghost use Rattle.program.specs.Command.{read_of};
 ghost use Rattle.loops.specs.Token.{role_of};
 ghost use Rattle.judge.specs.Standing.{stand_of};
@@ -53,6 +53,7 @@ impl Run {
 
     // The run behind a command.
     fn moved(self, command: Command) -> Run
+        requires { command.number ≤ 255 }
         ensures { result ≡ moved_of (role_of command.kind) command.kind command.number self command.next }
     {
         let Command {
@@ -61,6 +62,7 @@ impl Run {
             next,
             ..
         } = command;
+        let number = number as u8;
         match role_of(kind) {
             Role::Plain => {
                 self.settled(next, kept(self.inner), self.settings.behind(kind, number))

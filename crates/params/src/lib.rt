@@ -20,8 +20,8 @@ pub use text::read_text;
 // answers tells a number for every command (`values_of`).
 #[derive(Clone, Copy)]
 pub struct Parameter {
-    pub number: u8,
     pub next: usize,
+    pub number: usize,
 }
 
 // What a number may be (L8): its least and greatest value, and its most digits.

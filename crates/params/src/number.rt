@@ -15,16 +15,16 @@ pub fn read_number(body: &[u8], place: usize, from: usize, range: Range) -> Resu
 {
     let wrong = Refusal::WrongNumber.at(place);
     let mut at = from;
-    let mut value: u32 = 0;
+    let mut value: usize = 0;
     loop {
         match byte_at(body, at) {
             CARET => {
-                if at == from || value < range.least as u32 {
+                if at == from || value < range.least as usize {
                     return Err(wrong);
                 }
                 return Ok(Parameter {
                     next: at,
-                    number: value as u8,
+                    number: value,
                 });
             }
             x @ b'0'..=b'9' => {
@@ -32,11 +32,12 @@ pub fn read_number(body: &[u8], place: usize, from: usize, range: Range) -> Resu
                     return Err(wrong);
                 }
                 let digit = (x - b'0') as u32;
-                let twice = value + value;
+                let once = value as u32;
+                let twice = once + once;
                 let fourfold = twice + twice;
                 let eightfold = fourfold + fourfold;
-                value = eightfold + twice + digit;
-                if (range.greatest as u32) < value {
+                value = (eightfold + twice + digit) as usize;
+                if (range.greatest as usize) < value {
                     return Err(wrong);
                 }
                 at += 1;

@@ -1,6 +1,6 @@
 -- What a command answers when it is performed (S1 to S5, S17, S18), and its price in scans (S19) and milliseconds (S20,
 -- S21).
-use Rattle.std.specs.Prelude.{ℕ, ◌*◌, List, eqb, take, drop}
+use Rattle.std.specs.Prelude.{ℕ, ◌*◌, ◌%◌, List, eqb, take, drop}
 use Rattle.basis.specs.Choice.{when}
 use Rattle.units.specs.Units.{sum_of, scans_of as scans_each, millis_of as millis_at}
 use Rattle.measure.specs.Width.{widths_of, counted_of, fits_of, column_of as centred}
@@ -86,6 +86,7 @@ answer_of k number text len w σ =
       millis = record { 0 = millis_of d number n σ.pace };
     }
 
--- a command of a body, performed at these settings: its text is measured where it stands
+-- a command of a body, performed at these settings: its text is measured where it stands, and its number is taken as a byte, which
+-- that of a command that was read is
 abbrev pub answer_at : List ℕ → Command → Settings → Performed
-answer_at b c σ = answer_of c.kind c.number c.text c.len (counted_of (widths_of (take c.len (drop c.text b)))) σ
+answer_at b c σ = answer_of c.kind (c.number % 256) c.text c.len (counted_of (widths_of (take c.len (drop c.text b)))) σ

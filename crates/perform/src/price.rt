@@ -1,5 +1,5 @@
 // What a command answers when it is performed (S1 to S5, S18), with its price in scans (S19) and milliseconds (S20).
-ghost use Rattle.std.specs.Prelude.{◌≡◌, take, drop};
+ghost use Rattle.std.specs.Prelude.{◌≡◌, ◌%◌, take, drop};
 ghost use Rattle.measure.specs.Width.{widths_of, counted_of};
 ghost use Rattle.perform.specs.Price.{doing_of, streams_of, acts_of, shifts_of, scans_of, millis_of, column_of, shown_of, answer_of, answer_at};
 
@@ -9,7 +9,7 @@ use program::{Command, Kind};
 use units::{Amount, Millis, Scans, Shifts};
 
 // What one step answers: kind, number as written, text place and length, start column, scans, milliseconds.
-// `text` and `len` are no `Option`: `values_of` (machine) tells them as numbers, with 0 for what a command lacks.
+// `number`, `text` and `len` are no `Option`s: `values_of` (machine) tells them as numbers, with 0 for what a command lacks.
 #[derive(Clone, Copy)]
 pub struct Performed {
     pub kind: Kind,
@@ -125,9 +125,10 @@ fn measured(body: &[u8], place: usize, len: usize) -> Widths
     measure_at(body, place, len)
 }
 
-// A command performed at these settings, with these widths of its text.
+// A command performed at these settings, with these widths of its text. Its number is taken as a byte, which that of a command that was
+// read is.
 pub fn perform(command: Command, widths: Widths, settings: Settings) -> Performed
-    ensures { result ≡ answer_of command.kind command.number command.text command.len widths settings }
+    ensures { result ≡ answer_of command.kind (command.number % 256) command.text command.len widths settings }
 {
     let Command {
         kind,
@@ -136,6 +137,7 @@ pub fn perform(command: Command, widths: Widths, settings: Settings) -> Performe
         len,
         ..
     } = command;
+    let number = (number % 256) as u8;
     let doing = acts(kind, widths);
     let cost = scans(doing, widths, settings.scans);
     Performed {

@@ -51,13 +51,13 @@ pub struct Row {
     pub letters: usize,
 }
 
-// One command: `next` is the place behind it. What it lacks is 0 and no `Option`, because the rules tell a step's answer as numbers,
-// with 0 for what a command lacks (S2 to S4).
+// One command: `next` is the place behind it. What it lacks is 0 and no `Option`, which performing it would take apart only to tell the 0 of
+// the rules (S2 to S4). The number is no byte: `turned` (loops) and `perform` take a command with any number.
 #[derive(Clone, Copy)]
 pub struct Command {
-    pub kind: Kind,
-    pub number: u8,
     pub next: usize,
+    pub number: usize,
     pub text: usize,
     pub len: usize,
+    pub kind: Kind,
 }

@@ -1,5 +1,5 @@
 -- The reckoning's code, command by command: what is added, and where a pass stops, goes on and ends.
-use Prim.Native.Nat.{ℕ, ◌+◌, ◌<◌}
+use Prim.Native.Nat.{ℕ, ◌+◌, ◌%◌, ◌<◌}
 use mathlib.Core.List.{List}
 use mathlib.Core.Bool.{true, false}
 use mathlib.Core.Path.{◌≡◌, refl, sym, ap, ◌∙◌}
@@ -55,7 +55,7 @@ stands_good b p c e = ap (tok_of b p) e
 
 module _ (b : List ℕ) (s : Reckoned) (c : Command) (e : read_of b s.place ≡ Ok c) where
   pub added_is : (w : Widths) (y : Performed) (τ : Settings) (u v : Totals) → w ≡ widths_of (take c.len (drop c.text b))
-      → y ≡ answer_of c.kind c.number c.text c.len w s.settings
+      → y ≡ answer_of c.kind (c.number % 256) c.text c.len w s.settings
       → τ ≡ behind_of c.kind c.number s.settings
       → v ≡ cost_of y
       → u ≡ plus_of s.totals v
@@ -67,7 +67,7 @@ module _ (b : List ℕ) (s : Reckoned) (c : Command) (e : read_of b s.place ≡ 
       let place : c.next ≡ p + size_of part = sym (next_is b p c e ρ refl) in
       let set : τ ≡ sets_part part s.settings = et ∙ sets_by c.kind b p c s.settings refl in
       let says : y ≡ says_of part s.settings =
-      ey ∙ ap (λ (v : Widths). answer_of c.kind c.number c.text c.len v s.settings) ew ∙ sym (says_is b p c s.settings e) in
+      ey ∙ ap (λ (v : Widths). answer_of c.kind (c.number % 256) c.text c.len v s.settings) ew ∙ sym (says_is b p c s.settings e) in
       let sum : u ≡ plus_of s.totals (cost_of (says_of part s.settings)) = eu ∙ ap (plus_of s.totals) (ev ∙ ap cost_of says) in
       ap (λ (n : ℕ). record { place = n; settings = τ; totals = u }) place
       ∙ ap (λ (x : Settings). record { place = p + size_of part; settings = x; totals = u }) set

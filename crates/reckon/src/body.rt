@@ -1,5 +1,5 @@
 // A body that is no longer than any program, so that each of its texts is measured to the end (S15).
-ghost use Rattle.std.specs.Prelude.{◌≡◌, ◌≤◌, length, take, drop};
+ghost use Rattle.std.specs.Prelude.{◌≡◌, ◌%◌, ◌≤◌, length, take, drop};
 ghost use Rattle.measure.specs.Width.{widths_of};
 ghost use Rattle.perform.specs.Price.{answer_of};
 
@@ -35,7 +35,7 @@ impl<'a> Body<'a> {
     // A command of the body, performed at these settings. It has the hint for the reason that `added` has it.
     #[inline(always)]
     pub(crate) fn perform(&self, command: Command, settings: Settings) -> Performed
-        ensures { result ≡ answer_of command.kind command.number command.text command.len (widths_of (take command.len (drop command.text self.now))) settings }
+        ensures { result ≡ answer_of command.kind (command.number % 256) command.text command.len (widths_of (take command.len (drop command.text self.now))) settings }
     {
         perform_at(self.bytes, command, settings)
     }

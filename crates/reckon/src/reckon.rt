@@ -32,7 +32,7 @@ pub(crate) fn added(body: &Body<'_>, command: Command, at: Reckoned) -> Reckoned
     let performed = body.perform(command, at.settings);
     Reckoned {
         place: command.next,
-        settings: at.settings.behind(command.kind, command.number),
+        settings: at.settings.behind(command.kind, command.number as u8),
         totals: at.totals.plus(Totals::cost(performed)),
     }
 }

@@ -1,9 +1,15 @@
 -- `run` performs the command at its place.
 use native.Mathlib.Omega.{arith}
 use Rattle.measure.proofs.Columns.{part_all}
+use Rattle.machine.proofs.Commands.{number_byte}
 use Rattle.machine.proofs.Moves.{ran_good}
 use Rattle.machine.proofs.Sounds.{held_most}
 use Rattle.machine.proofs.Run.run.Goals as goal
+
+pub moved-requires : goal.moved-requires
+moved-requires c =
+    let a = c.args in
+    number_byte a.body.now a.self.place a.command c.requires.1
 
 pub returns : goal.returns
 returns c =

@@ -11,11 +11,12 @@ use crate::bytes::{CARET, byte_at, is_letter};
 use crate::kinds::{KIND_COLUMN, KIND_PLAIN, KIND_TILDE, kind_of};
 use refusal::{Fault, Refusal};
 
-// Where the first byte stands that is no column, if there is one.
+// Where the first byte stands that is no column, if there is one. The end is compared and not asked of the table, which costs less.
 fn first_other(rest: &[u8]) -> Option<usize>
     ensures { result ≡ position (λ x. not (kind_is Column x)) rest.now }
 {
-    rest.iter().position(|x| kind_of(*x) != KIND_COLUMN)
+    rest.iter()
+        .position(|x| *x == CARET || kind_of(*x) != KIND_COLUMN)
 }
 
 // The place after the columns that stand from a place on.

@@ -94,26 +94,26 @@ ended_stops : (b : List ℕ) (p m : ℕ) (o : List Open) (t : Tok) → judge (ch
 ended_stops b p m o (good c) = refl
 ended_stops b p m o (bad w) = refl
 
--- the first refusal is the one that is named
-pub first_refused : (b : List ℕ) (n q : ℕ) → Refusal b n q → judge_of b ≡ Err (fault n q)
+-- the first refusal is the one that is named, by its name
+by_name : (b : List ℕ) (n q : ℕ) → Refusal b n q → judge_of b ≡ Err (fault n q)
 unfolding judge_of
-first_refused b n q (too_long h) =
+by_name b n q (too_long h) =
     ap (λ (t : Bool). when t (Err (fault 28 84)) (when (eqb (get_or b 0 0) caret) (commands_of b) (Err (fault 21 0)))) (lt-ltb 84 (length b) h)
-first_refused b n q (no_caret h k) =
+by_name b n q (no_caret h k) =
     ap (λ (t : Bool). when t (Err (fault 28 84)) (when (eqb (get_or b 0 0) caret) (commands_of b) (Err (fault 21 0)))) (le-ltb 84 (length b) h)
     ∙ ap (λ (t : Bool). when t (commands_of b) (Err (fault 21 0))) (ne_eqb (get_or b 0 0) caret k)
-first_refused b n q (behind {p = p} {m = m} {o = o} s r h) =
+by_name b n q (behind {p = p} {m = m} {o = o} s r h) =
     begun_judged b s
     ∙ reach_judge b r
     ∙ ap (λ (ts : List Tok). judge ts m p true o) (tokens_first b p h)
     ∙ ended_stops b p m o (get b p)
-first_refused b n q (wrong {p = p} {m = m} {w = w} {o = o} s r h g) =
+by_name b n q (wrong {p = p} {m = m} {w = w} {o = o} s r h g) =
     begun_judged b s
     ∙ reach_judge b r
     ∙ ap (λ (ts : List Tok). judge ts m p false o) (tokens_first b p h)
     ∙ ap (λ (k : Tok). judge (chain k (λ z. tokens_of b (p + z))) m p false o) g
     ∙ ap Err (sym (fault_back w))
-first_refused b n q (loops {p = p} {m = m} {o = o} {c = c} s r g x) =
+by_name b n q (loops {p = p} {m = m} {o = o} {c = c} s r g x) =
     let t = get_two b p c g in
     let w = get_within b p c g in
     let h : p < length b = omega arith in
@@ -122,7 +122,7 @@ first_refused b n q (loops {p = p} {m = m} {o = o} {c = c} s r g x) =
     ∙ ap (λ (ts : List Tok). judge ts m p false o) (tokens_first b p h)
     ∙ ap (λ (k : Tok). judge (chain k (λ z. tokens_of b (p + z))) m p false o) g
     ∙ ap (λ (k : Structure). judged (moved p (p + size_of c) k) (λ next m' e' o'. judge (tokens_of b (p + size_of c)) m' next e' o')) x
-first_refused b n q (unclosed {p = p} {m = m} {e = e} {l = l} {o = o} s r h) =
+by_name b n q (unclosed {p = p} {m = m} {e = e} {l = l} {o = o} s r h) =
     begun_judged b s
     ∙ reach_judge b r
     ∙ ap (λ (ts : List Tok). judge ts m p e (l ∷ o)) (tokens_none b p h)
@@ -136,8 +136,12 @@ refusal_named b n q (wrong {w = w} s r h g) = number_named w.refusal
 refusal_named b n q (loops s r g x) = refl
 refusal_named b n q (unclosed s r h) = refl
 
+-- so judging gives its number and its place
+pub first_refused : (b : List ℕ) (n q : ℕ) → Refusal b n q → (judge_of b ≡ Err (fault n q)) × Named n
+first_refused b n q x = (by_name b n q x, refusal_named b n q x)
+
 -- so a body has one refusal at most, and an accepted one has none
 pub one_refusal : (b : List ℕ) (n q k r : ℕ) → Refusal b n q → Refusal b k r → (n ≡ k) × (q ≡ r)
 one_refusal b n q k r x y =
-    let e : fault n q ≡ fault k r = err_one (sym (first_refused b n q x) ∙ first_refused b k r y) in
+    let e : fault n q ≡ fault k r = err_one (sym (by_name b n q x) ∙ by_name b k r y) in
     (sym (refusal_named b n q x) ∙ ap (λ (w : Fault). number_of w.refusal) e ∙ refusal_named b k r y, ap (λ (w : Fault). w.place) e)

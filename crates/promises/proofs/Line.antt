@@ -18,7 +18,7 @@ use Rattle.refusal.specs.declared.Fault.{Fault}
 use Rattle.refusal.specs.Refusal.{fault}
 use Rattle.std.proofs.Common.{Ok, Err}
 use Rattle.grammar.proofs.Grammars.{described_accepted}
-use Rattle.grammar.proofs.Refusals.{first_refused, refusal_named}
+use Rattle.grammar.proofs.Refusals.{first_refused}
 use Rattle.room.specs.Room.{room_of}
 use Rattle.reckon.specs.Forecast.{tallies_of, settled_of, settings_at, out_of_range, by_verdict, forecast_of, told_of as forecast_told}
 use Rattle.course.specs.Price.{scans, millis}
@@ -114,9 +114,9 @@ pub ours_runs : LineRuns ours
 ours_runs =
     record {
       accepts = λ b endless d. ap verdict_told (described_accepted b endless d);
-      refuses = λ b n p r. ap verdict_told (first_refused b n p r) ∙ ap (λ (k : ℕ). no_at k p) (refusal_named b n p r);
+      refuses = λ b n p r. let x = first_refused b n p r in ap verdict_told x.0 ∙ ap (λ (k : ℕ). no_at k p) x.1;
       out_of_range_lem = λ b pace each h. ap forecast_told (out_of_range_lem b pace each h);
-      no_program = λ b pace each n p h r. ap forecast_told (no_program b pace each (fault n p) h (first_refused b n p r)) ∙ ap (λ (k : ℕ). no_at k p) (refusal_named b n p r);
+      no_program = λ b pace each n p h r. let x = first_refused b n p r in ap forecast_told (no_program b pace each (fault n p) h x.0) ∙ ap (λ (k : ℕ). no_at k p) x.1;
       foretold = λ b σ set e. ap forecast_told (forecast_holds b σ set e);
       never = λ b σ set e. ap forecast_told (forecast_never b σ set e);
       most = λ b σ set e. (line_ends b e σ set).most;

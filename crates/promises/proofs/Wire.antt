@@ -27,7 +27,7 @@ use Rattle.reader.specs.Read.{read_of, told_of as read_told}
 use Rattle.reader.specs.declared.read.Packet.{Packet}
 use Rattle.reader.proofs.ReadBack.{query_reads, reset_reads, body_reads, normal_reads}
 use Rattle.reader.proofs.Unique.{normal_only, same_fields, query_only, reset_only}
-use Rattle.reader.proofs.Refusals.{refused_lowest, lowest_named, lowest_refused, no_packet}
+use Rattle.reader.proofs.Refusals.{refused_lowest, lowest_refused, no_packet}
 use Rattle.reply.specs.Reply.{is_last, is_reply, heard_from, heard_of, reply_rows, told_of as status_told, status}
 use Rattle.reply.specs.declared.Status.{Status}
 use Rattle.reply.proofs.Replies.{reply_reads, reply_only, same_reply, heard_past}
@@ -90,7 +90,7 @@ module _ (mid last : ℕ) (busy sink : Bool) (out : List ℕ) (allowed : Allowed
         told = ap (λ (x : List ℕ). status_told (heard_of mid x)) front ∙ ap status_told (reply_reads mid last busy sink allowed known);
         behind = ap (drop 8) laying ∙ drop_laid p out;
         apart = λ m z.
-            let e = no_packet m mid last busy sink in
+            let e = (no_packet m mid last busy sink).0 in
             let n = sym (ap (λ (x : List ℕ). (read_told (read_of m x)).number) front ∙ ap (λ (x : Result Packet Refusal). (read_told x).number) e) ∙ z in
             omega (arith, read_no_lem m (reply_of mid last busy sink) _ e);
       }
@@ -108,8 +108,8 @@ ours_reads =
           let t = refused_told (read_of mid b) k e in
           subst (Lowest mid b) t.1 (refused_lowest mid b (refusal_of k) allowed t.0);
       refused = λ mid b k allowed l.
-          let n = lowest_named mid b k l in
-          ap read_told (lowest_refused mid b (refusal_of k) allowed (subst (Lowest mid b) (sym n) l)) ∙ ap no n;
+          let x = lowest_refused mid b k allowed l in
+          ap read_told x.0 ∙ ap no x.1;
     }
 
 -- what was heard has a last ID that a sign may have

@@ -10,7 +10,7 @@ use Rattle.basis.specs.Rows.{first_of, applies}
 use Rattle.basis.proofs.Rows.{given_applies, lowest_given}
 use Rattle.std.specs.Prelude.{Result, Err}
 use Rattle.refusal.specs.Refusal.{number_of, refusal_of, refused_or, Named, AllNamed}
-use Rattle.refusal.proofs.Names.{name_back, number_some, first_named}
+use Rattle.refusal.proofs.Names.{number_some, first_named}
 use Rattle.refusal.specs.declared.Refusal.{Refusal}
 use Rattle.packet.specs.Mid.{is_forbidden, Allowed, mid_row}
 use Rattle.packet.specs.Wire.{reply_of}
@@ -69,10 +69,9 @@ lowest_named mid b k l =
     subst Named (lowest_first mid b k l) (first_named (rows_of mid b) (table_named mid b) given.0)
 
 -- and the packet is refused by that name
-pub lowest_refused : (mid : ℕ) (b : List ℕ) (e : Refusal) → Allowed mid → Lowest mid b (number_of e) → read_of mid b ≡ Err e
-lowest_refused mid b e allowed l =
-    let same : refusal_of (first_of (rows_of mid b)) ≡ e = ap refusal_of (lowest_first mid b (number_of e) l) ∙ name_back e in
-    read_passes mid b allowed ∙ refused_where mid b (number_of e) l.holds ∙ ap (λ (x : Refusal). Err x) same
+pub lowest_refused : (mid : ℕ) (b : List ℕ) (k : ℕ) → Allowed mid → Lowest mid b k → (read_of mid b ≡ Err (refusal_of k)) × Named k
+lowest_refused mid b k allowed l =
+    (read_passes mid b allowed ∙ refused_where mid b k l.holds ∙ ap (λ (n : ℕ). Err (refusal_of n)) (lowest_first mid b k l), lowest_named mid b k l)
 
 -- number 11 applies to every reply, whoever reads it: both letters say that more packets follow
 eleven : (m mid last : ℕ) (busy sink : Bool) → applies 11 (rows_of m (reply_of mid last busy sink)) ≡ true
@@ -80,14 +79,22 @@ unfolding reply_of
 eleven m mid last true sink = refl
 eleven m mid last false sink = refl
 
--- so no reply is an accepted packet, for the turned MID or any other: it is 19 by the guard, or what the table says
+-- so no reply is an accepted packet, for the turned MID or any other: it is 19 by the guard, or what the table says, a number with a name
 pub no_packet : (m mid last : ℕ) (busy sink : Bool)
-    → read_of m (reply_of mid last busy sink) ≡ Err (refusal_of (first_of (mid_row m ∷ rows_of m (reply_of mid last busy sink))))
+    → (read_of m (reply_of mid last busy sink) ≡ Err (refusal_of (first_of (mid_row m ∷ rows_of m (reply_of mid last busy sink)))))
+    × Named (first_of (mid_row m ∷ rows_of m (reply_of mid last busy sink)))
 no_packet m mid last busy sink = go (is_forbidden m) refl
   where
     b : List ℕ
     b = reply_of mid last busy sink
 
-    go : (t : Bool) → is_forbidden m ≡ t → read_of m b ≡ Err (refusal_of (first_of (mid_row m ∷ rows_of m b)))
-    go true e = read_stops m b e ∙ ap (λ (n : ℕ). Err (refusal_of n)) (sym (mid_stops m (rows_of m b) e))
-    go false e = read_passes m b e ∙ refused_where m b 11 (eleven m mid last busy sink) ∙ ap (λ (n : ℕ). Err (refusal_of n)) (sym (mid_passes m (rows_of m b) e))
+    go : (t : Bool) → is_forbidden m ≡ t
+        → (read_of m b ≡ Err (refusal_of (first_of (mid_row m ∷ rows_of m b)))) × Named (first_of (mid_row m ∷ rows_of m b))
+    go true e =
+        let n = sym (mid_stops m (rows_of m b) e) in
+        (read_stops m b e ∙ ap (λ (k : ℕ). Err (refusal_of k)) n, subst Named n refl)
+    go false e =
+        let n = sym (mid_passes m (rows_of m b) e) in
+        let a = eleven m mid last busy sink in
+        let given = lowest_given (rows_of m b) 0 11 (table_rises m b) a in
+        (read_passes m b e ∙ refused_where m b 11 a ∙ ap (λ (k : ℕ). Err (refusal_of k)) n, subst Named n (first_named (rows_of m b) (table_named m b) given.0))

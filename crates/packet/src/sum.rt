@@ -18,7 +18,7 @@ pub fn sum_of(bytes: &[u8]) -> u8
 pub(crate) fn negated(total: u8) -> u8
     ensures { result ≡ (256 - total) % 256 }
 {
-    total.wrapping_neg()
+    0u8.wrapping_sub(total)
 }
 
 // The byte that brings the sum of these bytes to 0.

@@ -19,9 +19,8 @@ use Rattle.std.specs.Prelude.{Result, Ok, Err, Option, Some, None}
 use Rattle.perform.specs.declared.price.Performed.{Performed}
 use Rattle.refusal.specs.declared.Refusal.{Refusal}
 use Rattle.refusal.specs.declared.Refusal.TheVariants.{Unsound}
-use Rattle.refusal.specs.Refusal.{AllNamed, number_of, told_by}
-use Rattle.refusal.proofs.Names.{number_some, some_one}
-use Rattle.std.specs.Result.{is_ok}
+use Rattle.refusal.specs.Refusal.{AllNamed}
+use Rattle.refusal.proofs.Names.{some_one}
 use Rattle.refusal.specs.declared.Refusal.{Refusal as No}
 use Rattle.machine.specs.Step.{told_of as answer_told}
 use Rattle.hear.specs.Hear.{told_of as outcome_told}
@@ -178,16 +177,6 @@ module _ (image : List ℕ) (n : ℕ) (next : List ℕ) (fits : length image ≡
   pub alone_went : (image' : List ℕ) → image' ≡ kept_of n image next
       → (n ≡ first_or (guarded image []) n) × (image' ≡ kept_of (first_or (guarded image []) n) image next)
   alone_went image' e = let all = guard_is image [] n fits ill (λ e. refl) in (all, e ∙ ap (λ (k : ℕ). kept_of k image next) all)
-
--- 0 is the number of a yes, and of no refusal
-pub yes_is : {A : Type 0} (values : A → List ℕ) (o : Result A Refusal) → eqb (told_by values o).number 0 ≡ is_ok o
-yes_is values (Ok x) = refl
-yes_is values (Err e) = ne_eqb (number_of e) 0 (λ z. omega (arith, number_some e))
-
--- what is stored for a yes alone
-pub stored : {A : Type 0} (values : A → List ℕ) (o : Result A Refusal) (t u : Bool) (image next image' : List ℕ) → t ≡ is_ok o → t ≡ u → image' ≡ when u next image
-    → image' ≡ kept_of (told_by values o).number image next
-stored values o t u image next image' e f h = h ∙ ap (λ (x : Bool). when x next image) (sym f ∙ e ∙ sym (yes_is values o))
 
 -- an unsound record is 16 to each call
 pub ill_receives : (image : List ℕ) (mid : ℕ) (b : List ℕ) → sound_of (record_of image) ≡ false → (outcome_told (receive_of (record_of image) mid b).outcome).number ≡ 16

@@ -1,5 +1,5 @@
 // The sign for C, over an image of its record: rules J3, J14 to J16, S1, S28 and S29, with N16, N19, N34, N251
-// and N252. A reset, a receive and a step each call, store where it is a yes, and tell: three lines thrice, which a closure would make no plainer.
+// and N252. A reset, a receive and a step each call, tell, and store where it is a yes: three lines thrice, which a closure would make no plainer.
 ghost use Rattle.std.specs.Prelude.{◌≡◌, not, [], ◌∷◌, eqb};
 ghost use Rattle.basis.specs.Rows.{first_of};
 ghost use Rattle.basis.specs.Told.{flag_of};
@@ -38,10 +38,11 @@ pub extern "C" fn yd_reset(image: &mut [u8]) -> u32
         return 251;
     };
     let cleared = sign.reset();
-    if cleared.outcome.is_ok() {
+    let told = tell_outcome(cleared.outcome);
+    if told == 0 {
         store(cleared.sign, image);
     }
-    tell_outcome(cleared.outcome)
+    told
 }
 
 // What bytes off the line do to the sign.
@@ -58,10 +59,11 @@ pub extern "C" fn yd_receive(image: &mut [u8], mid: u8, bytes: &[u8], answer: &m
         return short(sign, short_for(mid));
     }
     let received = sign.receive(mid, bytes);
-    if received.outcome.is_ok() {
+    let told = tell_received(received.outcome, &received.body, answer);
+    if told == 0 {
         store(received.sign, image);
     }
-    tell_received(received.outcome, &received.body, answer)
+    told
 }
 
 // One step.
@@ -78,10 +80,11 @@ pub extern "C" fn yd_step(image: &mut [u8], answer: &mut [u8]) -> u32
         return short(sign, 252);
     }
     let stepped = sign.step();
-    if stepped.answer.is_ok() {
+    let told = tell_stepped(stepped.answer, answer);
+    if told == 0 {
         store(stepped.sign, image);
     }
-    tell_stepped(stepped.answer, answer)
+    told
 }
 
 // Writes the reply to a query; AUX reads S if `aux` isn't 0.

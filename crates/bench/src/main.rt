@@ -9,8 +9,6 @@ mod carry;
 mod foretell;
 mod show;
 
-use std::io;
-
 // The bodies whose packets are counted.
 const CARRIED: [&str; 4] = [
     "AAAAAAAAAAAAAA",
@@ -48,21 +46,15 @@ const FORETOLD: [&str; 12] = [
     "^P21",
 ];
 
-// Every example, a line each.
-fn all(rt: &impl Print) -> io::Result<()> {
+// Every example, a line each. A line that can't be written is left out, and those after it are tried.
+fn main(rt: HostRuntime) {
     for body in CARRIED {
-        carry::packets(rt, body.as_bytes())?;
+        let _ = carry::packets(&rt, body.as_bytes());
     }
     for body in SHOWN {
-        show::first(rt, body)?;
+        let _ = show::first(&rt, body);
     }
     for body in FORETOLD {
-        foretell::forecast(rt, body)?;
+        let _ = foretell::forecast(&rt, body);
     }
-    Ok(())
-}
-
-fn main(rt: HostRuntime) {
-    // Output that can't be written is left out, and the program ends well all the same.
-    let _ = all(&rt);
 }

@@ -1,7 +1,7 @@
 // The lines of the input, each taken apart and tried.
 use crate::show::{judged, measured, read, stood};
 use arrayvec::ArrayVec;
-use input::{digit, pair};
+use input::{digit, line_end, pair};
 use std::io;
 
 // The bytes that a text writes, as many as are tried at most: two digits between < and > write one, any other byte itself. The script
@@ -41,10 +41,13 @@ fn line(rt: &impl Print, text: &[u8]) -> io::Result<()> {
     }
 }
 
-// All lines.
-pub(crate) fn all(rt: &impl Print, text: &[u8]) -> io::Result<()> {
-    for text in text.split(|x| *x == b'\n') {
-        line(rt, text)?;
+// All lines, each cut where `line_end` says, so that its contract holds of what this program reads. What can't be written of a line is
+// left out, and the lines after it are tried.
+pub(crate) fn all(rt: &impl Print, text: &[u8]) {
+    let mut at: usize = 0;
+    while at < text.len() {
+        let end = line_end(text, at);
+        let _ = line(rt, &text[at..end]);
+        at = end + 1;
     }
-    Ok(())
 }

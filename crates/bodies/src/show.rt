@@ -31,12 +31,12 @@ pub(crate) fn judged(rt: &impl Print, body: &[u8]) -> io::Result<()> {
 // The widths of a text, and where it starts.
 pub(crate) fn measured(rt: &impl Print, text: &[u8]) -> io::Result<()> {
     let widths = measure::measure(text);
-    print!(rt;
+    let _ = print!(rt;
         "{}: whole {} lit {}",
         Bytes(text),
         widths.whole,
         widths.lit
-    )?;
+    );
     if measure::fits(widths) {
         println!(rt; " column {}", measure::start_column(widths))
     } else {

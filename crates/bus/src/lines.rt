@@ -2,9 +2,8 @@
 use crate::show::{cleared, copied, received, repeated, replied, stepped};
 use arrayvec::ArrayVec;
 use completed::Completed;
-use input::pair;
+use input::{line_end, pair};
 use sign::Sign;
-use std::io;
 
 // The bytes that a line writes behind its first two, as many as there is room for. The script of the crate `bodies` writes most bytes
 // as themselves, so it has a reading of its own.
@@ -28,15 +27,15 @@ fn known(sign: Sign, text: &[u8]) -> Sign {
 }
 
 // One thing done to the sign.
-fn done(rt: &impl Print, sign: Sign, text: &[u8]) -> io::Result<Sign> {
+fn done(rt: &impl Print, sign: Sign, text: &[u8]) -> Sign {
     let Some(what) = text.first() else {
-        return Ok(sign);
+        return sign;
     };
     match what {
         b'r' => received(rt, sign.receive(0x80, decode::<32>(text).as_slice())),
         b'm' => match decode::<32>(text).as_slice() {
             [mid, packet @ ..] => received(rt, sign.receive(*mid, packet)),
-            [] => Ok(sign),
+            [] => sign,
         },
         b's' => stepped(rt, sign.step()),
         b'z' => cleared(rt, sign.reset()),
@@ -44,16 +43,18 @@ fn done(rt: &impl Print, sign: Sign, text: &[u8]) -> io::Result<Sign> {
         b'F' => replied(rt, sign, false),
         b'S' => replied(rt, sign, true),
         b't' => repeated(rt, sign, text),
-        b'k' => Ok(known(sign, text)),
-        _ => Ok(Sign::power_on()),
+        b'k' => known(sign, text),
+        _ => Sign::power_on(),
     }
 }
 
-// All lines, from power-on.
-pub(crate) fn all(rt: &impl Print, text: &[u8]) -> io::Result<()> {
+// All lines, from power-on, each cut where `line_end` says, so that its contract holds of what this program reads.
+pub(crate) fn all(rt: &impl Print, text: &[u8]) {
     let mut sign = Sign::power_on();
-    for text in text.split(|x| *x == b'\n') {
-        sign = done(rt, sign, text)?;
+    let mut at: usize = 0;
+    while at < text.len() {
+        let end = line_end(text, at);
+        sign = done(rt, sign, &text[at..end]);
+        at = end + 1;
     }
-    Ok(())
 }

@@ -1,4 +1,4 @@
-// One line for each thing done: the answer in words.
+// One line for each thing done: the answer in words. What can't be written is left out, and what comes after it is tried.
 use hear::Outcome;
 use input::digit;
 use judge::Ending;
@@ -29,72 +29,72 @@ fn outcome(rt: &impl Print, what: Result<Outcome, Refusal>) -> io::Result<()> {
 }
 
 // The outcome of a receive with the body that was released.
-pub(crate) fn received(rt: &impl Print, got: Received) -> io::Result<Sign> {
-    outcome(rt, got.outcome)?;
+pub(crate) fn received(rt: &impl Print, got: Received) -> Sign {
+    let _ = outcome(rt, got.outcome);
     if let Ok(Outcome::Released { len, .. }) = got.outcome {
-        front(rt, &got.body, len)?;
+        let _ = front(rt, &got.body, len);
     }
-    println!(rt)?;
-    Ok(got.sign)
+    let _ = println!(rt);
+    got.sign
 }
 
 // The outcome of a reset.
-pub(crate) fn cleared(rt: &impl Print, got: Cleared) -> io::Result<Sign> {
-    outcome(rt, got.outcome)?;
-    println!(rt)?;
-    Ok(got.sign)
+pub(crate) fn cleared(rt: &impl Print, got: Cleared) -> Sign {
+    let _ = outcome(rt, got.outcome);
+    let _ = println!(rt);
+    got.sign
 }
 
 // A step's answer.
-pub(crate) fn stepped(rt: &impl Print, went: Stepped) -> io::Result<Sign> {
-    match went.answer {
+pub(crate) fn stepped(rt: &impl Print, went: Stepped) -> Sign {
+    let _ = match went.answer {
         Ok(Some(did)) => {
-            print!(rt;
+            let _ = print!(rt;
                 "did number {} text {} len {}",
                 did.number, did.text, did.len
-            )?;
+            );
             println!(rt;
                 " column {} scans {} ms {}",
                 did.column, did.scans, did.millis
-            )?;
+            )
         }
-        Ok(None) => println!(rt; "idle")?,
-        Err(refusal) => println!(rt; "{refusal}")?,
-    }
-    Ok(went.sign)
+        Ok(None) => println!(rt; "idle"),
+        Err(refusal) => println!(rt; "{refusal}"),
+    };
+    went.sign
 }
 
 // The reply, in hexadecimal.
-pub(crate) fn replied(rt: &impl Print, sign: Sign, aux: bool) -> io::Result<Sign> {
+pub(crate) fn replied(rt: &impl Print, sign: Sign, aux: bool) -> Sign {
     let mut out = [0u8; 8];
-    match sign.reply(0x80, aux, &mut out) {
+    let _ = match sign.reply(0x80, aux, &mut out) {
         Ok(_) => {
             for x in out {
-                print!(rt; "{x:02x}")?;
+                let _ = print!(rt; "{x:02x}");
             }
-            println!(rt)?;
+            println!(rt)
         }
-        Err(refusal) => println!(rt; "{refusal}")?,
-    }
-    Ok(sign)
+        Err(refusal) => println!(rt; "{refusal}"),
+    };
+    sign
 }
 
 // The running body, copied into a buffer of 20 bytes.
-pub(crate) fn copied(rt: &impl Print, sign: Sign) -> io::Result<Sign> {
+pub(crate) fn copied(rt: &impl Print, sign: Sign) -> Sign {
     let mut out = [0u8; 20];
-    match sign.copy_body(&mut out) {
+    let _ = match sign.copy_body(&mut out) {
         Ok(n) => {
-            print!(rt; "copied {n} ")?;
-            front(rt, &out, n)?;
-            println!(rt)?;
+            let _ = print!(rt; "copied {n} ");
+            let _ = front(rt, &out, n);
+            println!(rt)
         }
-        Err(refusal) => println!(rt; "{refusal}")?,
-    }
-    Ok(sign)
+        Err(refusal) => println!(rt; "{refusal}"),
+    };
+    sign
 }
 
 // What the repeater hands back of the body that a line gives, behind a place and a length of one digit each.
-pub(crate) fn repeated(rt: &impl Print, sign: Sign, text: &[u8]) -> io::Result<Sign> {
+pub(crate) fn repeated(rt: &impl Print, sign: Sign, text: &[u8]) -> Sign {
     if let [_, _, place, len, _, body @ ..] = text {
         let stretch = repeat(
             body,
@@ -102,8 +102,8 @@ pub(crate) fn repeated(rt: &impl Print, sign: Sign, text: &[u8]) -> io::Result<S
             usize::from(digit(*len)),
             b"standing line",
         );
-        rt.write_all(stretch)?;
-        println!(rt)?;
+        let _ = rt.write_all(stretch);
+        let _ = println!(rt);
     }
-    Ok(sign)
+    sign
 }

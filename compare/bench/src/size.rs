@@ -11,12 +11,15 @@ const TABLE: &str = ".rodata..Lswitch.table.";
 /// The function that asks for the kinds of bytes.
 const READER: &str = "program::reader::read_command";
 
+/// The bytes of the table of byte kinds. A table of this size in any other function is a second one, too.
+const KINDS: u64 = 128;
+
 /// What an object of the archive brings into a program.
 pub struct Object {
     pub name: String,
     pub code: u64,
     pub constants: u64,
-    /// Those of the constants that are tables which the compiler made of a `match` in the reader of commands, one by one.
+    /// Those of the constants that are tables which the compiler made of a `match` in the reader of commands, or of their size, one by one.
     pub tables: Vec<u64>,
     /// Bytes that need memory of their own: data and zeros.
     pub memory: u64,
@@ -49,7 +52,7 @@ fn add(object: Option<&mut Object>, section: &str, bytes: u64) {
         object.code += bytes;
     } else if section.starts_with(".rodata") {
         object.constants += bytes;
-        if section.strip_prefix(TABLE).is_some_and(|function| function.starts_with(READER)) {
+        if section.strip_prefix(TABLE).is_some_and(|function| bytes == KINDS || function.starts_with(READER)) {
             object.tables.push(bytes);
         }
     } else if section.starts_with(".data") || section.starts_with(".bss") {
@@ -57,7 +60,7 @@ fn add(object: Option<&mut Object>, section: &str, bytes: u64) {
     }
 }
 
-/// The bytes of the table of byte kinds, which is the only table made of a `match` in the reader of commands.
+/// The bytes of the table of byte kinds, which is the only table of its size, and the only one made of a `match` in the reader of commands.
 pub fn kinds(objects: &[Object]) -> Result<u64, String> {
     let tables: Vec<u64> = objects.iter().flat_map(|object| object.tables.iter().copied()).collect();
     match tables[..] {

@@ -21,7 +21,7 @@
  * images may be used at once.
  *
  * Needs. memcpy is all that the archive imports. It has constants and no other static data, allocates nothing, and knows no clock. The
- * deepest call is yd_receive: 1184 bytes of stack on x86-64; docs/PRICES.md has every call.
+ * deepest call is yd_receive: 1248 bytes of stack on x86-64; docs/PRICES.md has every call.
  */
 #ifndef YURODEKAPI_H
 #define YURODEKAPI_H
